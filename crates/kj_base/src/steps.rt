@@ -1,0 +1,23 @@
+//! The steps of promises.
+ghost use Rattle.std.specs.Prelude.{◌≡◌, List, IfOk, OnErr, Option, [], ◌∷◌};
+ghost use Rattle.kj_base.specs.Record.{Item, Run, Free, Tells};
+
+use crate::actions::Action;
+use crate::memory::NoMemory;
+use crate::numbers::{NodeId, StepId};
+use crate::outcomes::Outcome;
+
+/// The host's side of a loop: it gives the action of each run, and is told each free.
+pub trait Steps {
+    /// Its runs, with the actions that it gave, and the frees that it was told, in order; or nothing.
+    ghost told: { Self → Option (List Item) };
+
+    /// The action of one run of a step under a node. A run that finds no memory adds nothing to what is told.
+    fn run(&mut self, node: NodeId, step: StepId, input: &Outcome) -> Result<Action, NoMemory>
+        ensures ran { IfOk result (λ action. Tells (told self.old) (Run node.0 step.0 input.now action ∷ []) (told self.new)) }
+        ensures none { OnErr result (Tells (told self.old) [] (told self.new)) };
+
+    /// A node is freed.
+    fn freed(&mut self, node: NodeId)
+        ensures freed { Tells (told self.old) (Free node.0 ∷ []) (told self.new) };
+}
