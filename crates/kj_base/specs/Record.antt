@@ -1,7 +1,7 @@
 -- The record of a loop: what its steps did and which nodes were freed, in order.
 use Rattle.std.specs.Prelude.{◌≡◌, ℕ, List, ◌++◌, Option, None, Some}
 use Rattle.kj_base.specs.declared.outcomes.Outcome.{Outcome}
-use Rattle.kj_base.specs.declared.actions.Action.{Action}
+use Rattle.kj_base.specs.Commands.{Action}
 
 -- a run of a step under a node, with its input and what it gave; or the free of a node
 pub data Item : Type 0 where

@@ -1,5 +1,6 @@
 //! The steps of promises.
 ghost use Rattle.std.specs.Prelude.{◌≡◌, List, IfOk, OnErr, Option, [], ◌∷◌};
+ghost use Rattle.kj_base.specs.Commands.{action_of};
 ghost use Rattle.kj_base.specs.Record.{Item, Run, Free, Tells};
 
 use crate::actions::Action;
@@ -14,7 +15,7 @@ pub trait Steps {
 
     /// The action of one run of a step under a node. A run that finds no memory adds nothing to what is told.
     fn run(&mut self, node: NodeId, step: StepId, input: &Outcome) -> Result<Action, NoMemory>
-        ensures ran { IfOk result (λ action. Tells (told self.old) (Run node.0 step.0 input.now action ∷ []) (told self.new)) }
+        ensures ran { IfOk result (λ action. Tells (told self.old) (Run node.0 step.0 input.now (action_of action) ∷ []) (told self.new)) }
         ensures none { OnErr result (Tells (told self.old) [] (told self.new)) };
 
     /// A node is freed.
