@@ -1,0 +1,4 @@
+pub mod FrontLemmas
+pub mod HeadLemmas
+pub mod SectionLemmas
+pub mod ValueLemmas

@@ -1,0 +1,48 @@
+-- A request's head, as the parser's grammar has it, of at most so many octets and fields (RFC 9112, sections 2, 3 and 5).
+use Rattle.std.specs.Prelude.{◌≡◌, ℕ, ◌<◌, ◌≤◌, List, ◌++◌, length, map}
+use Rattle.httparse.specs.Grammar.{RequestHead, IsRequestHead, print_request, ReadsRequest, NeverHasRequest}
+use Rattle.http_heads.specs.Section.{field_of}
+use Rattle.http_heads.specs.declared.field.Head.{Head}
+use Rattle.http_heads.specs.declared.HeadRead.{HeadRead}
+use Rattle.http_heads.specs.declared.HeadRead.TheVariants.{Whole, More, Bad}
+
+-- the parts of a head that a request keeps
+abbrev pub head_of : RequestHead → Head
+head_of tree = record { method = tree.method; target = tree.target; minor = tree.minor; fields = map field_of tree.fields }
+
+-- these octets, all of them, are the head that the tree prints
+pub record IsHeadBy (tree : RequestHead) (bytes : List ℕ) (head : Head) : Type 0 where
+  pub valid : IsRequestHead tree
+  pub text : bytes ≡ print_request tree
+  pub few : length tree.fields ≤ 100
+  pub short : length bytes ≤ 65536
+  pub parts : head ≡ head_of tree
+
+-- these octets, all of them, are the head
+abbrev pub IsHead : List ℕ → Head → Type 0
+IsHead bytes head = (tree : RequestHead) × IsHeadBy tree bytes head
+
+-- the first len octets are the head
+abbrev pub StartsWithHead : List ℕ → Head → ℕ → Type 0
+StartsWithHead bytes head len = (front : List ℕ) × (rest : List ℕ) × (bytes ≡ front ++ rest) × (len ≡ length front) × IsHead front head
+
+-- no prefix is a head
+abbrev pub HasNoHead : List ℕ → Type 0
+HasNoHead bytes = (head : Head) (len : ℕ) → StartsWithHead bytes head len → ⊥
+
+-- no octets can follow that make a prefix a head
+abbrev pub NeverHasHead : List ℕ → Type 0
+NeverHasHead bytes = (more : List ℕ) → HasNoHead (bytes ++ more)
+
+-- what an answer says of the octets
+abbrev pub Reads : List ℕ → HeadRead → Type 0
+Reads bytes (Whole head len) = StartsWithHead bytes head len
+Reads bytes More = HasNoHead bytes
+Reads bytes Bad = NeverHasHead bytes
+
+-- the same of heads of any length
+abbrev pub Parses : List ℕ → HeadRead → Type 0
+Parses bytes (Whole head len) =
+    (tree : RequestHead) × (rest : List ℕ) × ReadsRequest bytes tree rest × (length tree.fields ≤ 100) × (head ≡ head_of tree) × (len ≡ length (print_request tree))
+Parses bytes More = (tree : RequestHead) (rest : List ℕ) → ReadsRequest bytes tree rest → 100 < length tree.fields
+Parses bytes Bad = NeverHasRequest bytes

@@ -1,0 +1,5 @@
+pub mod Values
+pub mod Framing
+pub mod Left
+pub mod Section
+pub mod Heads

@@ -1,0 +1,53 @@
+//! Heads of HTTP/1.x requests, and what they say of the body and of the connection
+//! (RFC 9112, sections 2 to 6 and 9.3).
+#![tactic(auto)]
+
+mod field;
+mod front;
+mod list;
+mod read;
+pub mod rules;
+mod section;
+pub mod text;
+
+pub use field::{Field, Fields, Head};
+pub use read::{one_head, read_head};
+pub use section::read_section;
+
+/// What the front of a stream is, read as the head of a request.
+#[derive(Debug, Drop)]
+pub enum HeadRead {
+    /// A head, and how many octets it has.
+    Whole(Head, usize),
+    /// No prefix is a head yet.
+    More,
+    /// Whatever follows, no prefix becomes a head.
+    Bad,
+}
+
+/// What the front of a stream is, read as a section of header fields with the empty line that ends
+/// it.
+#[derive(Debug, Drop)]
+pub enum SectionRead {
+    /// The fields, and how many octets the section has.
+    Whole(Fields, usize),
+    /// No prefix is a section yet.
+    More,
+    /// More fields than a section may have: whatever follows, no prefix becomes a section.
+    Crowded,
+    /// Whatever follows, no prefix becomes a section.
+    Bad,
+}
+
+/// How the body of a request is delimited (RFC 9112, section 6.3).
+#[derive(Clone, Copy, Debug, PartialEq, Eq)]
+pub enum Framing {
+    /// There is no body.
+    Empty,
+    /// So many octets.
+    Length(u64),
+    /// The chunked coding (RFC 9112, section 7.1).
+    Chunked,
+    /// There is no safe framing: the status to answer with.
+    Fault(u16),
+}

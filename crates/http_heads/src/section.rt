@@ -1,0 +1,69 @@
+//! Sections of header fields: the lines of a head behind its start line, or a trailer.
+ghost use Rattle.std.specs.Prelude.{◌≡◌, ◌<◌, length, take, map, IfOk, Ok};
+ghost use Rattle.httparse.specs.Spans.{IsSectionWithin, header_bytes};
+ghost use Rattle.http_heads.specs.Section.{ReadsAs, ParsesAs, name_and_value};
+
+use crate::SectionRead;
+use crate::field::{Field, Fields};
+use crate::front::{MAX_FIELDS, MAX_OCTETS, front_of};
+use httparse::spans::{EMPTY_HEADER_SPAN, HeaderSpan, parse_headers};
+use httparse::{Error, Status};
+use kj_base::{Bytes, NoMemory};
+use std::alloc::Global;
+
+/// Copies the fields that the first spans cover.
+pub fn fields_of(
+    alloc: Global,
+    bytes: &[u8],
+    spans: &[HeaderSpan],
+    count: usize,
+) -> Result<Fields, NoMemory>
+    requires { IsSectionWithin bytes.now spans.now (length bytes.now) count }
+    ensures { IfOk result (λ fields. map name_and_value fields ≡ map (header_bytes bytes.now) (take count spans.now)) }
+{
+    let mut fields = Fields::new(alloc);
+    for i in 0..count {
+        let span = spans[i];
+        let name = Bytes::from_slice(alloc, span.name.of(bytes))?;
+        let value = Bytes::from_slice(alloc, span.value.of(bytes))?;
+        fields.push(Field { name, value })?;
+    }
+    Ok(fields)
+}
+
+/// Reads a section of any length.
+fn parse(alloc: Global, bytes: &[u8]) -> Result<SectionRead, NoMemory>
+    ensures { IfOk result (ParsesAs bytes.now) }
+{
+    let mut spans = [EMPTY_HEADER_SPAN; MAX_FIELDS];
+    match parse_headers(bytes, &mut spans) {
+        Ok(Status::Complete((len, count))) => {
+            let fields = fields_of(alloc, bytes, &spans, count)?;
+            Ok(SectionRead::Whole(fields, len))
+        }
+        Ok(Status::Partial) => Ok(SectionRead::More),
+        Err(Error::TooManyHeaders) => Ok(SectionRead::Crowded),
+        Err(_) => Ok(SectionRead::Bad),
+    }
+}
+
+/// Reads the section of fields at the front of a stream, with the empty line that ends it
+/// (RFC 9112, sections 5 and 7.1.2).
+pub fn read_section(alloc: Global, bytes: &[u8]) -> Result<SectionRead, NoMemory>
+    // A section, nothing complete, or nothing that can become complete.
+    ensures reads { IfOk result (ReadsAs bytes.now) }
+
+    // These come only where fewer octets are there than a section may have.
+    ensures more { result ≡ Ok SectionRead.More → length bytes.now < 65536 }
+    ensures crowded { result ≡ Ok SectionRead.Crowded → length bytes.now < 65536 }
+{
+    let front = front_of(bytes, MAX_OCTETS);
+    match parse(alloc, front)? {
+        SectionRead::Whole(fields, len) => Ok(SectionRead::Whole(fields, len)),
+        SectionRead::More if bytes.len() < MAX_OCTETS => Ok(SectionRead::More),
+        SectionRead::Crowded if bytes.len() < MAX_OCTETS => Ok(SectionRead::Crowded),
+        SectionRead::More => Ok(SectionRead::Bad),
+        SectionRead::Crowded => Ok(SectionRead::Bad),
+        SectionRead::Bad => Ok(SectionRead::Bad),
+    }
+}
