@@ -1,0 +1,4 @@
+pub mod Causes
+pub mod Whole
+pub mod MemSource
+pub mod MemSink

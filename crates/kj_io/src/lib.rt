@@ -1,0 +1,14 @@
+//! The outside world as traits, with counts of faults, in memory and for real.
+#![tactic(auto)]
+
+mod fault;
+mod mem;
+mod sink;
+mod source;
+mod standard;
+
+pub use fault::Failed;
+pub use mem::{MemSink, MemSource, Turn};
+pub use sink::{Sink, write_all};
+pub use source::{Read, Source, read_whole};
+pub use standard::{StdSink, StdSource};
