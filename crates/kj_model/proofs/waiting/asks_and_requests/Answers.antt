@@ -1,0 +1,26 @@
+-- Each log is what the definitions compute.
+use Rattle.std.specs.Prelude.{refl}
+use Rattle.std.specs.Fmt.{digits}
+use Rattle.kj_model.specs.Free.{free_to}
+use Rattle.kj_model.specs.Value.{value_to}
+use Rattle.kj_model.proofs.waiting.asks_and_requests.Goals as goal
+
+pub returns-clause-request_ends : goal.returns-clause-request_ends
+unfolding digits free_to value_to
+returns-clause-request_ends c = refl
+
+pub returns-clause-request_stopped : goal.returns-clause-request_stopped
+unfolding digits free_to value_to
+returns-clause-request_stopped c = refl
+
+pub returns-clause-ask_abandoned : goal.returns-clause-ask_abandoned
+unfolding digits free_to value_to
+returns-clause-ask_abandoned c = refl
+
+pub returns-clause-ask_replied : goal.returns-clause-ask_replied
+unfolding digits free_to value_to
+returns-clause-ask_replied c = refl
+
+pub returns-clause-abandoned_name_is_free : goal.returns-clause-abandoned_name_is_free
+unfolding digits free_to value_to
+returns-clause-abandoned_name_is_free c = refl

@@ -1,0 +1,21 @@
+//! Worked scripts on waits, asks and requests.
+ghost use Rattle.std.specs.Prelude.{◌≡◌};
+ghost use Rattle.kj_model.specs.Log.{log_of};
+ghost use Rattle.kj_model.specs.Places.{arenas_fit};
+ghost use Rattle.kj_model.specs.Text.{log_text};
+ghost use Rattle.kj_model.specs.WaitingScripts.{name_taken_meanwhile, name_taken_meanwhile_log, name_counts_meanwhile, name_counts_meanwhile_log, request_ends, request_ends_log, request_stopped, request_stopped_log, ask_abandoned, ask_abandoned_log, ask_replied, ask_replied_log, abandoned_name_is_free, abandoned_name_is_free_log};
+
+/// A wait holds its promise until it ends.
+pub fn waits_hold_their_promise()
+    ensures name_taken_meanwhile { log_text (log_of arenas_fit name_taken_meanwhile) ≡ name_taken_meanwhile_log }
+    ensures name_counts_meanwhile { log_text (log_of arenas_fit name_counts_meanwhile) ≡ name_counts_meanwhile_log }
+{}
+
+/// Asks, ended requests and abandoned cells are told once each.
+pub fn asks_and_requests()
+    ensures request_ends { log_text (log_of arenas_fit request_ends) ≡ request_ends_log }
+    ensures request_stopped { log_text (log_of arenas_fit request_stopped) ≡ request_stopped_log }
+    ensures ask_abandoned { log_text (log_of arenas_fit ask_abandoned) ≡ ask_abandoned_log }
+    ensures ask_replied { log_text (log_of arenas_fit ask_replied) ≡ ask_replied_log }
+    ensures abandoned_name_is_free { log_text (log_of arenas_fit abandoned_name_is_free) ≡ abandoned_name_is_free_log }
+{}
