@@ -22,7 +22,7 @@ pub use numbers::{Limits, Name, NodeId, StepId};
 pub use numerals::read_decimal;
 pub use outcomes::{Exception, Kind, Outcome};
 pub use refused::Refused;
-pub use script::{Bodies, Body, Line, Lines, NumberedLine, Script};
+pub use script::{Line, Lines, NumberedLine, Script};
 pub use sent::Sent;
 pub use steps::Steps;
 pub use words::Words;

@@ -1,10 +1,8 @@
-//! A script: limits, the bodies of steps, and the lines outside them.
+//! A script: its lines that mean something.
 ghost use Rattle.std.specs.Prelude.{◌≡◌, [], ◌∷◌, ◌++◌, OnOk, OnErr};
 
-use crate::actions::Action;
 use crate::commands::Command;
 use crate::memory::NoMemory;
-use crate::numbers::{Limits, StepId};
 use std::alloc::Global;
 use std::marker::Model;
 
@@ -61,56 +59,8 @@ impl Lines {
     }
 }
 
-/// One body of a step: the k-th run of a step takes its k-th body, later runs the last.
-#[derive(Drop)]
-pub struct Body {
-    pub step: StepId,
-    pub action: Action,
-}
-
-/// The bodies of a script, in order.
-#[derive(Drop)]
-pub struct Bodies {
-    items: Vec<Body>,
-}
-
-impl Model for Bodies {
-    ghost use Rattle.std.specs.Prelude.{List};
-    ghost use Rattle.kj_base.specs.declared.script.Body.{Body};
-
-    ghost Value = { List Body };
-
-    ghost view = { λ b. b.items.items };
-}
-
-impl Bodies {
-    pub fn new(alloc: Global) -> Bodies
-        ensures { result ≡ [] }
-    {
-        Bodies {
-            items: Vec::new(alloc),
-        }
-    }
-
-    pub fn as_slice(&self) -> &[Body]
-        ensures { result.now ≡ self.now }
-    {
-        self.items.as_slice()
-    }
-
-    pub fn push(&mut self, body: Body) -> Result<(), NoMemory>
-        ensures ok { OnOk result (self.new ≡ self.old ++ body ∷ []) }
-        ensures err { OnErr result (self.new ≡ self.old) }
-    {
-        self.items.push(body)?;
-        Ok(())
-    }
-}
-
-/// A script as a loop runs it: without a `limits` line the limits are none.
+/// A script as a loop runs it.
 #[derive(Drop)]
 pub struct Script {
-    pub limits: Option<Limits>,
-    pub bodies: Bodies,
     pub lines: Lines,
 }
