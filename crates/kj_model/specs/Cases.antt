@@ -1,15 +1,14 @@
 -- Which cases of the definitions the variants of kj_base are.
-use Rattle.std.specs.Prelude.{map}
+use Rattle.std.specs.Prelude.{[], None, map}
 use Rattle.kj_base.specs.declared.refused.Refused.{Refused as RefusedCase}
 use Rattle.kj_base.specs.declared.refused.Refused.TheVariants.{Unknown as UnknownCase, Taken as TakenCase, Full as FullCase}
 use Rattle.kj_base.specs.declared.script.Line.{Line as LineCase}
 use Rattle.kj_base.specs.declared.script.Line.TheVariants.{Do as DoCase, Turn as TurnCase}
 use Rattle.kj_base.specs.declared.script.NumberedLine.{NumberedLine}
-use Rattle.kj_base.specs.declared.script.Body.{Body as BodyCase}
 use Rattle.kj_base.specs.declared.script.Script.{Script as ScriptCase}
-use Rattle.kj_base.specs.Commands.{command_of, action_of}
+use Rattle.kj_base.specs.Commands.{command_of}
 use Rattle.kj_model.specs.Apply.{Refused, Unknown, Taken, Full}
-use Rattle.kj_model.specs.Log.{Line, Do, Turn, Numbered, Body, Script}
+use Rattle.kj_model.specs.Log.{Line, Do, Turn, Numbered, Script}
 
 -- the refusal that each variant is
 abbrev pub refused_of : RefusedCase → Refused
@@ -26,10 +25,6 @@ line_of TurnCase = Turn
 abbrev pub numbered_of : NumberedLine → Numbered
 numbered_of x = record { number = x.number; line = line_of x.line }
 
--- a body of a step
-abbrev pub body_of : BodyCase → Body
-body_of body = record { step = body.step.0; action = action_of body.action }
-
--- a script
+-- a script, as far as it is built: it has no limits and no bodies of its own
 abbrev pub script_of : ScriptCase → Script
-script_of script = record { limits = script.limits; bodies = map body_of script.bodies; lines = map numbered_of script.lines }
+script_of script = record { limits = None; bodies = []; lines = map numbered_of script.lines }
