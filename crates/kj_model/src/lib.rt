@@ -2,6 +2,7 @@
 //! scripts worked out by hand and laws of the definitions.
 #![tactic(auto)]
 
+pub mod laws;
 pub mod order;
 pub mod owning;
 pub mod refusing;

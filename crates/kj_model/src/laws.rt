@@ -1,0 +1,39 @@
+//! Laws of the definitions.
+ghost use Rattle.std.specs.Prelude.{◌≡◌, ℕ, List, ◌≤◌, ◌<◌, length};
+ghost use Rattle.kj_base.specs.Queue.{Events, Way, IsQueue, armed, disarmed, taken, rewound, no_events};
+ghost use Rattle.kj_model.specs.Calls.{Call, call, calls};
+ghost use Rattle.kj_model.specs.Free.{Guard, Every, free_to};
+ghost use Rattle.kj_model.specs.Grown.{Grows};
+ghost use Rattle.kj_model.specs.Nodes.{Entry};
+ghost use Rattle.kj_model.specs.Trees.{tree_numbers, AreApart, HubsStay, Frees};
+ghost use Rattle.kj_model.specs.World.{State, Setting};
+
+/// Each operation of the queue keeps its points in order and its events apart.
+pub fn queue_is_kept()
+    ensures empty { IsQueue no_events }
+    ensures armed { (way : Way) (e : ℕ) (q : Events) → IsQueue q → IsQueue (armed way e q) }
+    ensures disarmed { (e : ℕ) (q : Events) → IsQueue q → IsQueue (disarmed e q) }
+    ensures taken { (q : Events) → IsQueue q → IsQueue (taken q) }
+    ensures rewound { (q : Events) → IsQueue q → IsQueue (rewound q) }
+{
+}
+
+/// Freeing a tree frees exactly its nodes, dependencies first, each once, and each other node keeps what it owns.
+pub fn tree_is_freed()
+    ensures closing { (k n : ℕ) (s : State) → AreApart (tree_numbers k s.world.nodes n) → Frees (tree_numbers k s.world.nodes n) s (free_to Every k n s) }
+    ensures guarded { (guard : Guard) (k n : ℕ) (s : State) → AreApart (tree_numbers k s.world.nodes n) → HubsStay (tree_numbers k s.world.nodes n) s.world.nodes → Frees (tree_numbers k s.world.nodes n) s (free_to guard k n s) }
+{
+}
+
+/// A tree with fewer nodes than the bound is read whole: a greater bound reads the same.
+pub fn tree_is_whole()
+    ensures { (m k n : ℕ) (nodes : List Entry) → k ≤ m → length (tree_numbers k nodes n) < k → tree_numbers m nodes n ≡ tree_numbers k nodes n }
+{
+}
+
+/// Each call only adds to the record.
+pub fn record_grows()
+    ensures one { (setting : Setting) (c : Call) (s : State) → Grows s (call setting c s).0 }
+    ensures all { (setting : Setting) (cs : List Call) (s : State) → Grows s (calls setting cs s).0 }
+{
+}
