@@ -8,6 +8,7 @@ pub mod Free
 pub mod Effects
 pub mod Uses
 pub mod Apply
+pub mod Causes
 pub mod Value
 pub mod Fire
 pub mod Calls

@@ -1,7 +1,10 @@
 //! Laws of the definitions.
-ghost use Rattle.std.specs.Prelude.{◌≡◌, ℕ, List, ◌≤◌, ◌<◌, length};
-ghost use Rattle.kj_base.specs.Queue.{Events, Way, IsQueue, armed, disarmed, taken, rewound, no_events};
-ghost use Rattle.kj_model.specs.Calls.{Call, call, calls};
+ghost use Rattle.std.specs.Prelude.{◌≡◌, ℕ, Bool, true, false, List, [], ◌≤◌, ◌<◌, length, Some};
+ghost use Rattle.kj_base.specs.Commands.{Command};
+ghost use Rattle.kj_base.specs.Queue.{Events, Way, IsQueue, is_armed, armed, disarmed, taken, rewound, no_events};
+ghost use Rattle.kj_model.specs.Apply.{Refused, refusal, apply};
+ghost use Rattle.kj_model.specs.Calls.{Call, call, calls, turn, Idle};
+ghost use Rattle.kj_model.specs.Causes.{causes, first_cause};
 ghost use Rattle.kj_model.specs.Free.{Guard, Every, free_to};
 ghost use Rattle.kj_model.specs.Grown.{Grows};
 ghost use Rattle.kj_model.specs.Nodes.{Entry};
@@ -15,25 +18,38 @@ pub fn queue_is_kept()
     ensures disarmed { (e : ℕ) (q : Events) → IsQueue q → IsQueue (disarmed e q) }
     ensures taken { (q : Events) → IsQueue q → IsQueue (taken q) }
     ensures rewound { (q : Events) → IsQueue q → IsQueue (rewound q) }
-{
-}
+{}
+
+/// Disarming an event that wasn't armed before gives back the list and both points.
+pub fn disarm_undoes_arming()
+    ensures { (way : Way) (e : ℕ) (q : Events) → IsQueue q → is_armed e q ≡ false → disarmed e (armed way e q) ≡ q }
+{}
+
+/// A refusal is the first cause that holds in the order of the causes, and after it the world and the record are as before.
+pub fn refusals_come_in_order()
+    ensures first { (setting : Setting) (inside : Bool) (c : Command) (s : State) → refusal setting inside c s ≡ first_cause (causes setting inside c s) }
+    ensures answer { (setting : Setting) (inside : Bool) (c : Command) (s : State) → (apply setting inside c s).1 ≡ refusal setting inside c s }
+    ensures same { (setting : Setting) (inside : Bool) (c : Command) (s : State) (refused : Refused) → (apply setting inside c s).1 ≡ Some refused → (apply setting inside c s).0 ≡ s }
+{}
+
+/// A turn of a loop whose queue is empty changes nothing.
+pub fn idle_turn_changes_nothing()
+    ensures { (setting : Setting) (s : State) → s.world.stopped ≡ false → IsQueue s.world.queue → s.world.queue.list ≡ [] → turn setting s ≡ (s, Idle) }
+{}
 
 /// Freeing a tree frees exactly its nodes, dependencies first, each once, and each other node keeps what it owns.
 pub fn tree_is_freed()
     ensures closing { (k n : ℕ) (s : State) → AreApart (tree_numbers k s.world.nodes n) → Frees (tree_numbers k s.world.nodes n) s (free_to Every k n s) }
     ensures guarded { (guard : Guard) (k n : ℕ) (s : State) → AreApart (tree_numbers k s.world.nodes n) → HubsStay (tree_numbers k s.world.nodes n) s.world.nodes → Frees (tree_numbers k s.world.nodes n) s (free_to guard k n s) }
-{
-}
+{}
 
 /// A tree with fewer nodes than the bound is read whole: a greater bound reads the same.
 pub fn tree_is_whole()
     ensures { (m k n : ℕ) (nodes : List Entry) → k ≤ m → length (tree_numbers k nodes n) < k → tree_numbers m nodes n ≡ tree_numbers k nodes n }
-{
-}
+{}
 
 /// Each call only adds to the record.
 pub fn record_grows()
     ensures one { (setting : Setting) (c : Call) (s : State) → Grows s (call setting c s).0 }
     ensures all { (setting : Setting) (cs : List Call) (s : State) → Grows s (calls setting cs s).0 }
-{
-}
+{}
