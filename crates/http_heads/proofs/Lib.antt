@@ -1,3 +1,4 @@
+pub mod EndingLemmas
 pub mod FrontLemmas
 pub mod HeadLemmas
 pub mod SectionLemmas

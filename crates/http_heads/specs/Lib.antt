@@ -3,3 +3,4 @@ pub mod Framing
 pub mod Left
 pub mod Section
 pub mod Heads
+pub mod Ending

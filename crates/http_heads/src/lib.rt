@@ -2,6 +2,7 @@
 //! (RFC 9112, sections 2 to 6 and 9.3).
 #![tactic(auto)]
 
+mod ending;
 mod field;
 mod front;
 mod list;
@@ -10,7 +11,9 @@ pub mod rules;
 mod section;
 pub mod text;
 
+pub use ending::{brings_head, brings_section};
 pub use field::{Field, Fields, Head};
+pub use front::{MAX_OCTETS, front_of};
 pub use read::{one_head, read_head};
 pub use section::read_section;
 
