@@ -1,0 +1,5 @@
+use Rattle.count_lock.specs.Passes.{IsPassOf, IsResting}
+use Rattle.count_lock.proofs.tests.numbers_run_out.Given as goal
+
+abbrev pub invariant-loop-i : goal.invariant-loop-i
+invariant-loop-i g l = IsPassOf l.lock l.pass × IsResting l.pass

@@ -1,0 +1,209 @@
+//! The calls of the lock, of a pass and of the value that is out.
+ghost use Rattle.std.specs.Prelude.{◌≡◌, ◌+◌, ◌-◌, ◌/◌, ◌^◌, ◌<◌, ◌≤◌, ℕ, [], ◌∷◌, ◌++◌, length, IfOk, IfErr, MatchResult, Some, None};
+ghost use Rattle.std.specs.Borrow.{sem};
+ghost use Rattle.count_lock.specs.Lent.{LendsValue};
+ghost use Rattle.count_lock.specs.Rule.{StartsWith, longer, of, Turned};
+ghost use Rattle.count_lock.specs.declared.view.Stage.TheVariants.{Idle, Turn};
+ghost use Rattle.count_lock.specs.Passes.{constant, seen, mine, number, first_spare, end_spare, IsSameSeat, IsPassOf, IsSamePass, IsResting, HasTurn, IsUnsplit, Accounts};
+
+use crate::held::Held;
+use crate::kept::Kept;
+use crate::lock::CountLock;
+use crate::pass::{Pass, SplitRefused};
+use crate::plays::{Both, Halves};
+use crate::view::{Key, View};
+use atomic_table::{Refused, Seat, Table};
+use kj_base::NoMemory;
+use std::alloc::Global;
+use std::sync::Wait;
+
+impl<T: Kept> Pass<T> {
+    pub fn number(&self) -> u32
+        ensures { result ≡ number self.now }
+    {
+        self.number
+    }
+}
+
+impl<T> Held<T> {
+    pub fn value(&self) -> &T
+        ensures { result.now ≡ self.now.value }
+    {
+        &self.value
+    }
+
+    pub fn value_mut(&mut self) -> &mut T
+        ensures* writes_back { sem 𝓛 (LendsValue T.row self.entry result) }
+        ensures value { result.now ≡ self.old.value }
+    {
+        &mut self.value
+    }
+}
+
+impl<T: Kept> CountLock<T> {
+    /// A lock with `words` words beside its own three, and its first pass.
+    /// Where there is no memory, the value comes back as it was.
+    pub fn new(
+        alloc: Global,
+        value: T,
+        words: u32,
+    ) -> Result<(CountLock<T>, Pass<T>), (NoMemory, T)>
+        requires { T.entries value ≡ [] }
+        ensures ok { IfOk result (λ r. IsPassOf r.0 r.1 × IsResting r.1 × (constant r.1 ≡ T.constant value) × (seen r.1 ≡ []) × (mine r.1 ≡ []) × (number r.1 ≡ 0) × (first_spare r.1 ≡ 1) × (end_spare r.1 ≡ 4294967296)) }
+        ensures err { IfErr result (λ e. e.1 ≡ value) }
+    {
+        let key = Key {
+            constant: value.constant(),
+            words: words as u64,
+        };
+        let Ok(mut slots) = Vec::with_capacity(alloc, 1) else {
+            return Err((NoMemory, value));
+        };
+        let Ok(row) = Vec::from_elem(alloc, 0u64, words as usize + 3) else {
+            slots.destroy_empty();
+            return Err((NoMemory, value));
+        };
+        slots.push_reserved(Some(value));
+        match Table::new(alloc, row.as_slice(), slots, &key) {
+            Ok((table, seat)) => Ok((
+                CountLock { table },
+                Pass {
+                    number: 0,
+                    from: 1,
+                    until: 1 << 32,
+                    seat,
+                },
+            )),
+            Err(Refused { mut slots }) => {
+                let back = slots.pop();
+                slots.destroy_empty();
+                match back {
+                    Some(Some(value)) => Err((NoMemory, value)),
+                    _ => unreachable!(),
+                }
+            }
+        }
+    }
+
+    /// A pass with a number of its own, which has seen as much.
+    pub fn split(&self, pass: &mut Pass<T>) -> Result<Pass<T>, SplitRefused>
+        requires lock { IsPassOf self.now pass.old × IsResting pass.old }
+        ensures lock { IsPassOf self.now pass.new × IsResting pass.new × (number pass.new ≡ number pass.old) × (constant pass.new ≡ constant pass.old) × (seen pass.new ≡ seen pass.old) × (mine pass.new ≡ mine pass.old) }
+        ensures ok { IfOk result (λ p. IsPassOf self.now p × IsResting p × (constant p ≡ constant pass.old) × (seen p ≡ seen pass.old) × (mine p ≡ []) × (number p ≡ first_spare pass.old)) }
+        ensures spare { IfOk result (λ p. (first_spare pass.new ≡ first_spare pass.old + 1) × (end_spare pass.new ≡ first_spare p) × (end_spare p ≡ end_spare pass.old)
+            × (first_spare p + (end_spare pass.old - first_spare pass.old - 1) / 2 ≡ end_spare pass.old)) }
+        ensures err { IfErr result (λ _. (first_spare pass.old ≡ end_spare pass.old) × IsSamePass pass.old pass.new) }
+    {
+        if pass.from == pass.until {
+            return Err(SplitRefused::Numbers);
+        }
+        let number = pass.from as u32;
+        let until = pass.until;
+        let from = until - (until - pass.from - 1) / 2;
+        let seat = self.table.shared.split_seat::<Halves>(&mut pass.seat);
+        pass.from += 1;
+        pass.until = from;
+        Ok(Pass {
+            number,
+            from,
+            until,
+            seat,
+        })
+    }
+
+    /// The pass then has the longer of what both have seen.
+    pub fn join(&self, into: &mut Pass<T>, from: Pass<T>)
+        requires into { IsPassOf self.now into.old × IsResting into.old }
+        requires from { IsPassOf self.now from × IsResting from }
+        ensures pass { IsSamePass into.old into.new × IsResting into.new × (mine into.new ≡ mine into.old) }
+        ensures seen { (seen into.new ≡ longer (seen into.old) (seen from)) × StartsWith (seen into.new) (seen into.old) × StartsWith (seen into.new) (seen from) }
+    {
+        let seat = from.into_seat();
+        self.table.shared.join_seat::<Both>(&mut into.seat, seat);
+        self.settle(&mut into.seat);
+    }
+
+    // Draws a ticket and waits until it is served. Then the value is out.
+    fn turn<R: Wait>(&self, rt: &R, seat: &mut Seat<Option<T>, View<T::Entry>>)
+        requires lock { seat.old.table_id ≡ self.now.table.shared.table_id }
+        requires rests { (seat.old.me.0.stage ≡ Idle) × (seat.old.me.1 ≡ []) }
+        ensures lock { IsSameSeat seat.old seat.new }
+        ensures turn { Turned T.entries T.constant T.by seat.old.me seat.new.me }
+    {
+        let ticket = self.draw(seat);
+        for _ in rt.forever() {
+            let serving = self.look(seat);
+            if serving == ticket {
+                return;
+            }
+            self.table
+                .shared
+                .park(rt, 1, (serving & 0xffff_ffff) as u32);
+        }
+        unreachable!()
+    }
+
+    /// Waits for its turn.
+    pub fn acquire<R: Wait>(&self, rt: &R, pass: &mut Pass<T>) -> Held<T>
+        requires lock { IsPassOf self.now pass.old }
+        requires rests { IsResting pass.old }
+        ensures pass { IsSamePass pass.old pass.new × HasTurn pass.new }
+        ensures value { (T.entries result.value ≡ seen pass.new) × (T.constant result.value ≡ constant pass.new) }
+        ensures seen { StartsWith (seen pass.new) (seen pass.old) × (mine pass.new ≡ mine pass.old) × Accounts T.by pass.new (seen pass.new) }
+        ensures unsplit { IsUnsplit pass.old → seen pass.new ≡ mine pass.new }
+    {
+        self.turn(rt, &mut pass.seat);
+        Held {
+            value: self.take(&mut pass.seat),
+        }
+    }
+
+    /// Waits for its turn, and ends the lock.
+    pub fn close<R: Wait>(self, rt: &R, pass: Pass<T>) -> T
+        requires { IsPassOf self pass × IsResting pass }
+        ensures seen { StartsWith (T.entries result) (seen pass) }
+        ensures mine { of T.by (number pass) (T.entries result) ≡ mine pass }
+        ensures constant { T.constant result ≡ constant pass }
+    {
+        let mut seat = pass.into_seat();
+        self.turn(rt, &mut seat);
+        self.lay_down(&mut seat);
+        let CountLock { table } = self;
+        let mut closed = table.close_with(seat);
+        let back = closed.take(0);
+        closed.free();
+        match back {
+            Some(value) => value,
+            None => unreachable!(),
+        }
+    }
+}
+
+impl<T: Kept> Held<T> {
+    /// The value stands for one entry more.
+    pub fn release(self, lock: &CountLock<T>, pass: &mut Pass<T>, entry: T::Entry)
+        requires lock { IsPassOf lock.now pass.old × HasTurn pass.old }
+        requires entry { (T.entries self.value ≡ seen pass.old ++ entry ∷ []) × (T.by entry ≡ number pass.old) × (T.constant self.value ≡ constant pass.old) }
+        requires room { length (seen pass.old) + 1 < 2 ^ 64 }
+        ensures pass { IsSamePass pass.old pass.new × IsResting pass.new }
+        ensures seen { (seen pass.new ≡ seen pass.old ++ entry ∷ []) × (mine pass.new ≡ mine pass.old ++ entry ∷ []) }
+    {
+        let Held { value } = self;
+        lock.put(&mut pass.seat, value);
+        lock.note(&mut pass.seat);
+        lock.pass_on(&mut pass.seat);
+        lock.table.shared.wake_all(1);
+    }
+
+    pub fn release_unchanged(self, lock: &CountLock<T>, pass: &mut Pass<T>)
+        requires lock { IsPassOf lock.now pass.old × HasTurn pass.old }
+        requires value { (T.entries self.value ≡ seen pass.old) × (T.constant self.value ≡ constant pass.old) }
+        ensures pass { IsSamePass pass.old pass.new × IsResting pass.new }
+        ensures seen { (seen pass.new ≡ seen pass.old) × (mine pass.new ≡ mine pass.old) }
+    {
+        let Held { value } = self;
+        lock.put(&mut pass.seat, value);
+        lock.pass_on(&mut pass.seat);
+        lock.table.shared.wake_all(1);
+    }
+}

@@ -1,0 +1,59 @@
+//! What each step tells. These types are for the proofs alone.
+ghost use Rattle.count_lock.specs.Rule.{drew, looked, noted, passed, laid, settled, left_half, right_half, joined, spent_view};
+
+use crate::kept::Kept;
+use crate::view::View;
+use atomic_table::{Join, Play, Split};
+use std::marker::PhantomData;
+
+pub struct Draw;
+
+impl<T: Kept> Play<Option<T>, View<T::Entry>> for Draw {
+    ghost then = { drew };
+}
+
+pub struct Look;
+
+impl<T: Kept> Play<Option<T>, View<T::Entry>> for Look {
+    ghost then = { looked T.entries T.constant T.by };
+}
+
+pub struct Note;
+
+impl<T: Kept> Play<Option<T>, View<T::Entry>> for Note {
+    ghost then = { noted T.entries T.by };
+}
+
+pub struct PassOn;
+
+impl<T: Kept> Play<Option<T>, View<T::Entry>> for PassOn {
+    ghost then = { passed };
+}
+
+pub struct LayDown;
+
+impl<T: Kept> Play<Option<T>, View<T::Entry>> for LayDown {
+    ghost then = { laid };
+}
+
+pub struct Settle;
+
+impl<T: Kept> Play<Option<T>, View<T::Entry>> for Settle {
+    ghost then = { settled T.by };
+}
+
+pub struct Halves;
+
+impl<E> Split<View<E>> for Halves {
+    ghost left = { left_half };
+
+    ghost right = { right_half };
+}
+
+pub struct Both;
+
+impl<E> Join<View<E>> for Both {
+    ghost both = { joined };
+
+    ghost spent = { spent_view };
+}

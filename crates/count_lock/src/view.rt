@@ -1,0 +1,53 @@
+//! What a seat knows, and the rule. No value of a view is made.
+use crate::kept::Kept;
+use atomic_table::TableRule;
+use std::collections::LinkedList;
+use std::marker::PhantomData;
+
+/// Where the pass stands between two calls of the lock and within one.
+pub enum Stage {
+    /// It holds no ticket.
+    Idle,
+    /// It holds a ticket that is not served yet.
+    Waiting,
+    /// Its ticket is served, and the value is out.
+    Turn,
+    /// Its ticket stays served for ever, and the value is at home.
+    Last,
+    /// It was joined into another.
+    Spent,
+}
+
+/// The spare numbers are those from `from` to below `until`. `at` is the ticket, counted without end.
+/// `told` is what a joined pass had seen, until the pass has looked at the lock again.
+pub struct View<E> {
+    pub stage: Stage,
+    pub at: u64,
+    pub number: u64,
+    pub from: u64,
+    pub until: u64,
+    pub seen: LinkedList<E>,
+    pub mine: LinkedList<E>,
+    pub told: LinkedList<E>,
+    pub constant: u64,
+}
+
+/// What is fixed when a lock is made: the constant of its value, and how many words follow the first three.
+#[derive(Drop)]
+pub struct Key {
+    pub constant: u64,
+    pub words: u64,
+}
+
+/// The rule of the lock's table.
+pub struct Rule<T> {
+    marker: PhantomData<T>,
+}
+
+impl<T: Kept> TableRule<Option<T>, View<T::Entry>, Key> for Rule<T> {
+    ghost use Rattle.count_lock.specs.Rule.{Ticketed, first_view};
+
+    ghost holds = { λ key. Ticketed T.entries T.constant T.by key.words };
+
+    ghost first = { λ key. first_view key.constant };
+}
