@@ -16,6 +16,7 @@ pub mod Log
 pub mod Text
 pub mod Trees
 pub mod Owned
+pub mod OwnedTest
 pub mod Grown
 pub mod Cases
 pub mod Scripts
@@ -24,3 +25,4 @@ pub mod SharingScripts
 pub mod OwningScripts
 pub mod RefusingScripts
 pub mod WaitingScripts
+pub mod CallLists

@@ -1,10 +1,11 @@
 -- Scripts on the order of events.
 use Rattle.std.specs.Prelude.{ℕ, List, [], ◌∷◌, codes, Some, None}
+use Rattle.kj_base.specs.declared.outcomes.Kind.TheVariants.{Failed}
 use Rattle.kj_base.specs.declared.outcomes.Outcome.TheVariants.{Value}
 use Rattle.kj_base.specs.declared.actions.Ending.TheVariants.{Value as Give}
-use Rattle.kj_base.specs.Commands.{Now, Later, Last, Pair, Then, Chain, Fulfil, DropCell, Detach, Ask, Reply}
+use Rattle.kj_base.specs.Commands.{Now, Later, Last, Pair, Then, Chain, Eager, Race, Fulfil, Reject, DropCell, Detach, Drop, Ask, Reply}
 use Rattle.kj_model.specs.Log.{Do, Turn, RunTurns, Wait, Script}
-use Rattle.kj_model.specs.Scripts.{at, body, limits, lines, promised, script}
+use Rattle.kj_model.specs.Scripts.{at, body, exception, limits, lines, promised, script}
 
 -- the leaf 1 is evaluated and freed, then the step of the Then 2 runs, then the Task 3 frees its tree and goes
 -- later 1 | then 2 1 10 - | detach 2 | turn
@@ -378,3 +379,86 @@ abbrev pub exception_passes_log : List ℕ
 exception_passes_log = lines (codes "free 1" ∷
     codes "free 2" ∷
     codes "free 3" ∷ [])
+
+-- the left Side is armed last and the right one breadth first, so the right one fires first and wins
+-- last 1 | later 2 | race 3 1 2 | detach 3 | run 2
+abbrev pub last_in_a_race : Script
+last_in_a_race = script None [] (
+    at 1 (Do (Last 1)) ∷
+    at 2 (Do (Later 2)) ∷
+    at 3 (Do (Race 3 1 2)) ∷
+    at 4 (Do (Detach 3)) ∷
+    at 5 (RunTurns 2) ∷ [])
+
+-- its log
+abbrev pub last_in_a_race_log : List ℕ
+last_in_a_race_log = lines (codes "free 1" ∷
+    codes "free 2" ∷
+    codes "free 3" ∷
+    codes "free 4" ∷
+    codes "free 5" ∷
+    codes "free 6" ∷ [])
+
+-- the step gives a value: the chain 3 becomes ready in place and arms its task breadth first, behind the task 8
+-- now 1 5 | chain 2 1 10 - | then 3 2 11 - | detach 3 | now 4 6 | then 5 4 12 - | detach 5 | run 3
+abbrev pub chain_ready_in_place : Script
+chain_ready_in_place = script None [] (
+    at 1 (Do (Now 1 (5 ∷ []))) ∷
+    at 2 (Do (Chain 2 1 (Some 10) None)) ∷
+    at 3 (Do (Then 3 2 (Some 11) None)) ∷
+    at 4 (Do (Detach 3)) ∷
+    at 5 (Do (Now 4 (6 ∷ []))) ∷
+    at 6 (Do (Then 5 4 (Some 12) None)) ∷
+    at 7 (Do (Detach 5)) ∷
+    at 8 (RunTurns 3) ∷ [])
+
+-- its log
+abbrev pub chain_ready_in_place_log : List ℕ
+chain_ready_in_place_log = lines (codes "free 1" ∷
+    codes "run 2 10 value 5" ∷
+    codes "free 2" ∷
+    codes "free 6" ∷
+    codes "run 7 12 value 6" ∷
+    codes "free 7" ∷
+    codes "free 8" ∷
+    codes "free 3" ∷
+    codes "run 4 11 value 5" ∷
+    codes "free 4" ∷
+    codes "free 5" ∷ [])
+
+-- an eager promise is evaluated though nobody waits, and keeps its outcome; what is attached afterwards finds it ready
+-- later 1 | eager 2 1 | turn | then 3 2 10 - | detach 3 | turn
+abbrev pub eager_keeps : Script
+eager_keeps = script None [] (
+    at 1 (Do (Later 1)) ∷
+    at 2 (Do (Eager 2 1)) ∷
+    at 3 Turn ∷
+    at 4 (Do (Then 3 2 (Some 10) None)) ∷
+    at 5 (Do (Detach 3)) ∷
+    at 6 Turn ∷ [])
+
+-- its log
+abbrev pub eager_keeps_log : List ℕ
+eager_keeps_log = lines (codes "free 1" ∷
+    codes "free 2" ∷
+    codes "run 3 10 value" ∷
+    codes "free 3" ∷
+    codes "free 4" ∷ [])
+
+-- a cell whose promise is gone takes nothing, and a settled one keeps its first outcome
+-- pair 1 11 | pair 2 12 | drop 1 | fulfil 11 5 | fulfil 12 6 | reject 12 failed 1000 | wait 2 1
+abbrev pub settled_once : Script
+settled_once = script None [] (
+    at 1 (Do (Pair 1 11)) ∷
+    at 2 (Do (Pair 2 12)) ∷
+    at 3 (Do (Drop 1)) ∷
+    at 4 (Do (Fulfil 11 (5 ∷ []))) ∷
+    at 5 (Do (Fulfil 12 (6 ∷ []))) ∷
+    at 6 (Do (Reject 12 (exception Failed 1000))) ∷
+    at 7 (Wait 2 1) ∷ [])
+
+-- its log
+abbrev pub settled_once_log : List ℕ
+settled_once_log = lines (codes "free 1" ∷
+    codes "free 2" ∷
+    codes "wait 2 done value 6" ∷ [])

@@ -227,3 +227,135 @@ cancel_is_busy_log = lines (codes "free 1" ∷
     codes "free 2" ∷
     codes "free 3" ∷
     codes "wait 3 done throw failed 9" ∷ [])
+
+-- the step drops the promise whose event is the next in the queue: its step 11 never runs
+-- step 10 | drop 6 | value | later 1 | then 2 1 10 - | detach 2 | later 4 | then 5 4 11 - | eager 6 5 | run 3
+abbrev pub dropped_while_armed : Script
+dropped_while_armed = script None (
+    body 10 (Drop 6 ∷ []) (Give []) ∷ []) (
+    at 4 (Do (Later 1)) ∷
+    at 5 (Do (Then 2 1 (Some 10) None)) ∷
+    at 6 (Do (Detach 2)) ∷
+    at 7 (Do (Later 4)) ∷
+    at 8 (Do (Then 5 4 (Some 11) None)) ∷
+    at 9 (Do (Eager 6 5)) ∷
+    at 10 (RunTurns 3) ∷ [])
+
+-- its log
+abbrev pub dropped_while_armed_log : List ℕ
+dropped_while_armed_log = lines (codes "free 1" ∷
+    codes "run 2 10 value" ∷
+    codes "free 4" ∷
+    codes "free 5" ∷
+    codes "free 6" ∷
+    codes "free 2" ∷
+    codes "free 3" ∷ [])
+
+-- the tasks go newest first, and then the promise of emptiness is settled
+-- set 1 - | pair 2 3 | add 1 2 | pair 4 5 | add 1 4 | empty 6 1 | then 7 6 10 - | detach 7 | clear 1 | turn | turn
+abbrev pub cleared_set_is_empty : Script
+cleared_set_is_empty = script None [] (
+    at 1 (Do (NewSet 1 None)) ∷
+    at 2 (Do (Pair 2 3)) ∷
+    at 3 (Do (Add 1 2)) ∷
+    at 4 (Do (Pair 4 5)) ∷
+    at 5 (Do (Add 1 4)) ∷
+    at 6 (Do (OnEmpty 6 1)) ∷
+    at 7 (Do (Then 7 6 (Some 10) None)) ∷
+    at 8 (Do (Detach 7)) ∷
+    at 9 (Do (Clear 1)) ∷
+    at 10 Turn ∷
+    at 11 Turn ∷ [])
+
+-- its log
+abbrev pub cleared_set_is_empty_log : List ℕ
+cleared_set_is_empty_log = lines (codes "free 3" ∷
+    codes "free 4" ∷
+    codes "free 1" ∷
+    codes "free 2" ∷
+    codes "free 5" ∷
+    codes "run 6 10 value" ∷
+    codes "free 6" ∷
+    codes "free 7" ∷
+    codes "idle" ∷ [])
+
+-- the set was empty before its error step ran, and the step puts a new task into it
+-- step 20 | later 7 | add 1 7 | value | set 1 20 | fail 2 failed 1000 | add 1 2 | empty 3 1 | then 4 3 30 - | detach 4 | run 4
+abbrev pub filled_in_the_error_step : Script
+filled_in_the_error_step = script None (
+    body 20 (Later 7 ∷ Add 1 7 ∷ []) (Give []) ∷ []) (
+    at 5 (Do (NewSet 1 (Some 20))) ∷
+    at 6 (Do (Broken 2 (exception Failed 1000))) ∷
+    at 7 (Do (Add 1 2)) ∷
+    at 8 (Do (OnEmpty 3 1)) ∷
+    at 9 (Do (Then 4 3 (Some 30) None)) ∷
+    at 10 (Do (Detach 4)) ∷
+    at 11 (RunTurns 4) ∷ [])
+
+-- its log
+abbrev pub filled_in_the_error_step_log : List ℕ
+filled_in_the_error_step_log = lines (codes "free 1" ∷
+    codes "run 2 20 throw failed 1000" ∷
+    codes "free 2" ∷
+    codes "free 3" ∷
+    codes "run 4 30 value" ∷
+    codes "free 4" ∷
+    codes "free 5" ∷
+    codes "free 6" ∷
+    codes "free 7" ∷ [])
+
+-- a step cancels: the tree of the wrap goes at once, and what waits for the wrap runs in the next turn
+-- step 10 | cancel 9 | value | canceler 9 | pair 1 11 | wrap 2 9 1 | then 3 2 - 20 | detach 3 | later 4 | then 5 4 10 - | detach 5 | run 3
+abbrev pub cancelled_in_a_turn : Script
+cancelled_in_a_turn = script None (
+    body 10 (Cancel 9 ∷ []) (Give []) ∷ []) (
+    at 4 (Do (NewCanceler 9)) ∷
+    at 5 (Do (Pair 1 11)) ∷
+    at 6 (Do (Wrap 2 9 1)) ∷
+    at 7 (Do (Then 3 2 None (Some 20))) ∷
+    at 8 (Do (Detach 3)) ∷
+    at 9 (Do (Later 4)) ∷
+    at 10 (Do (Then 5 4 (Some 10) None)) ∷
+    at 11 (Do (Detach 5)) ∷
+    at 12 (RunTurns 3) ∷ [])
+
+-- its log
+abbrev pub cancelled_in_a_turn_log : List ℕ
+cancelled_in_a_turn_log = lines (codes "free 5" ∷
+    codes "run 6 10 value" ∷
+    codes "free 1" ∷
+    codes "free 6" ∷
+    codes "free 7" ∷
+    codes "free 2" ∷
+    codes "run 3 20 throw failed 2" ∷
+    codes "free 3" ∷
+    codes "free 4" ∷ [])
+
+-- a dropped canceler cancels, the newest wrap first; both tasks are armed depth first, in this order
+-- canceler 1 | pair 2 12 | wrap 3 1 2 | then 4 3 - 30 | detach 4 | pair 5 15 | wrap 6 1 5 | then 7 6 - 31 | detach 7 | drop 1 | run 3
+abbrev pub canceler_dropped : Script
+canceler_dropped = script None [] (
+    at 1 (Do (NewCanceler 1)) ∷
+    at 2 (Do (Pair 2 12)) ∷
+    at 3 (Do (Wrap 3 1 2)) ∷
+    at 4 (Do (Then 4 3 None (Some 30))) ∷
+    at 5 (Do (Detach 4)) ∷
+    at 6 (Do (Pair 5 15)) ∷
+    at 7 (Do (Wrap 6 1 5)) ∷
+    at 8 (Do (Then 7 6 None (Some 31))) ∷
+    at 9 (Do (Detach 7)) ∷
+    at 10 (Do (Drop 1)) ∷
+    at 11 (RunTurns 3) ∷ [])
+
+-- its log
+abbrev pub canceler_dropped_log : List ℕ
+canceler_dropped_log = lines (codes "free 5" ∷
+    codes "free 1" ∷
+    codes "free 6" ∷
+    codes "run 7 31 throw failed 2" ∷
+    codes "free 7" ∷
+    codes "free 8" ∷
+    codes "free 2" ∷
+    codes "run 3 30 throw failed 2" ∷
+    codes "free 3" ∷
+    codes "free 4" ∷ [])

@@ -1,7 +1,7 @@
 -- Scripts on refusals, and on places for nodes.
 use Rattle.std.specs.Prelude.{ℕ, List, [], ◌∷◌, codes, Some, None}
 use Rattle.kj_base.specs.declared.actions.Ending.TheVariants.{Value as Give}
-use Rattle.kj_base.specs.Commands.{Now, Later, Pair, Then, Chain, Race, All, Detach, Begin}
+use Rattle.kj_base.specs.Commands.{Now, Later, Pair, Then, Chain, Race, All, Fulfil, Detach, Drop, Begin}
 use Rattle.kj_model.specs.Log.{Do, Turn, Wait, Script}
 use Rattle.kj_model.specs.Scripts.{at, body, limits, lines, script}
 
@@ -224,3 +224,63 @@ chain_over_the_first_place_log = lines (codes "refused 9 full" ∷
     codes "free 6" ∷
     codes "free 7" ∷
     codes "free 8" ∷ [])
+
+-- a refused command ends the step with code 9: what came before stays, the rest isn't done, and the step for exceptions of the same Then doesn't run
+-- step 10 | now 5 1 | fulfil 9 | now 6 2 | value | later 1 | then 2 1 10 11 | wait 2 1 | wait 5 1 | wait 6 1
+abbrev pub refused_in_a_step : Script
+refused_in_a_step = script None (
+    body 10 (Now 5 (1 ∷ []) ∷ Fulfil 9 [] ∷ Now 6 (2 ∷ []) ∷ []) (Give []) ∷ []) (
+    at 6 (Do (Later 1)) ∷
+    at 7 (Do (Then 2 1 (Some 10) (Some 11))) ∷
+    at 8 (Wait 2 1) ∷
+    at 9 (Wait 5 1) ∷
+    at 10 (Wait 6 1) ∷ [])
+
+-- its log
+abbrev pub refused_in_a_step_log : List ℕ
+refused_in_a_step_log = lines (codes "free 1" ∷
+    codes "run 2 10 value" ∷
+    codes "free 2" ∷
+    codes "wait 2 done throw failed 9" ∷
+    codes "free 3" ∷
+    codes "wait 5 done value 1" ∷
+    codes "refused 10 unknown 6" ∷ [])
+
+-- four nodes of sixteen live, but both arenas are taken; one is free again when its last node went
+-- limits 16 8 | now 1 | now 2 | then 3 1 - - | then 4 2 - - | now 5 | drop 3 | now 5
+abbrev pub full_by_places : Script
+full_by_places = script (limits 16 8) [] (
+    at 2 (Do (Now 1 [])) ∷
+    at 3 (Do (Now 2 [])) ∷
+    at 4 (Do (Then 3 1 None None)) ∷
+    at 5 (Do (Then 4 2 None None)) ∷
+    at 6 (Do (Now 5 [])) ∷
+    at 7 (Do (Drop 3)) ∷
+    at 8 (Do (Now 5 [])) ∷ [])
+
+-- its log
+abbrev pub full_by_places_log : List ℕ
+full_by_places_log = lines (codes "refused 6 full" ∷
+    codes "free 1" ∷
+    codes "free 3" ∷
+    codes "free 2" ∷
+    codes "free 4" ∷
+    codes "free 5" ∷ [])
+
+-- a source gives its name's place to the new name; a third name is too much
+-- limits 16 2 | now 1 | now 2 | then 3 1 - - | pair 3 4 | now 5
+abbrev pub full_of_names : Script
+full_of_names = script (limits 16 2) [] (
+    at 2 (Do (Now 1 [])) ∷
+    at 3 (Do (Now 2 [])) ∷
+    at 4 (Do (Then 3 1 None None)) ∷
+    at 5 (Do (Pair 3 4)) ∷
+    at 6 (Do (Now 5 [])) ∷ [])
+
+-- its log
+abbrev pub full_of_names_log : List ℕ
+full_of_names_log = lines (codes "refused 5 taken 3" ∷
+    codes "refused 6 full" ∷
+    codes "free 2" ∷
+    codes "free 1" ∷
+    codes "free 3" ∷ [])

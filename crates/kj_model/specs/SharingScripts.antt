@@ -6,7 +6,7 @@ use Rattle.kj_base.specs.Commands.{Now, Broken, Later, Pair, Then, Chain, Fork, 
 use Rattle.kj_model.specs.Log.{Do, Turn, RunTurns, Wait, Script}
 use Rattle.kj_model.specs.Scripts.{at, body, exception, lines, promised, script}
 
--- both leaves are ready, so both Sides are armed; the left one fires first: the other tree goes, and the winner listens on
+-- both Sides are armed; the left one fires first and frees the other's tree, then the task frees the race, and the event of the other Side leaves the queue
 -- later 1 | later 2 | race 3 1 2 | detach 3 | run 3
 abbrev pub loser_is_disarmed : Script
 loser_is_disarmed = script None [] (
@@ -328,4 +328,101 @@ hub_holds_the_cancelled_log = lines (codes "free 1" ∷
     codes "free 3" ∷
     codes "free 6" ∷
     codes "free 4" ∷
+    codes "free 5" ∷ [])
+
+-- the hub fires first and arms the right Side depth first, ahead of the left one; the branch that wins is the hub's last reference
+-- now 1 5 | fork 2 1 | branch 3 2 | drop 2 | later 4 | race 5 4 3 | detach 5 | run 3
+abbrev pub loser_takes_the_hub : Script
+loser_takes_the_hub = script None [] (
+    at 1 (Do (Now 1 (5 ∷ []))) ∷
+    at 2 (Do (Fork 2 1)) ∷
+    at 3 (Do (Branch 3 2)) ∷
+    at 4 (Do (Drop 2)) ∷
+    at 5 (Do (Later 4)) ∷
+    at 6 (Do (Race 5 4 3)) ∷
+    at 7 (Do (Detach 5)) ∷
+    at 8 (RunTurns 3) ∷ [])
+
+-- its log
+abbrev pub loser_takes_the_hub_log : List ℕ
+loser_takes_the_hub_log = lines (codes "free 1" ∷
+    codes "free 4" ∷
+    codes "free 2" ∷
+    codes "free 3" ∷
+    codes "free 5" ∷
+    codes "free 6" ∷
+    codes "free 7" ∷
+    codes "free 8" ∷ [])
+
+-- a join without parts is ready from the start, with the empty value
+-- all 1 | wait 1 1 | fast 2 | wait 2 1
+abbrev pub joins_of_none : Script
+joins_of_none = script None [] (
+    at 1 (Do (All 1 [])) ∷
+    at 2 (Wait 1 1) ∷
+    at 3 (Do (Fast 2 [])) ∷
+    at 4 (Wait 2 1) ∷ [])
+
+-- its log
+abbrev pub joins_of_none_log : List ℕ
+joins_of_none_log = lines (codes "free 1" ∷
+    codes "wait 1 done value" ∷
+    codes "free 2" ∷
+    codes "wait 2 done value" ∷ [])
+
+-- each branch gives the exception; the hub goes before the branch that was its last reference
+-- fail 1 overloaded 1001 | fork 2 1 | branch 3 2 | branch 4 2 | drop 2 | then 5 3 - 30 | detach 5 | then 6 4 - 31 | detach 6 | run 4
+abbrev pub exception_to_each_branch : Script
+exception_to_each_branch = script None [] (
+    at 1 (Do (Broken 1 (exception Overloaded 1001))) ∷
+    at 2 (Do (Fork 2 1)) ∷
+    at 3 (Do (Branch 3 2)) ∷
+    at 4 (Do (Branch 4 2)) ∷
+    at 5 (Do (Drop 2)) ∷
+    at 6 (Do (Then 5 3 None (Some 30))) ∷
+    at 7 (Do (Detach 5)) ∷
+    at 8 (Do (Then 6 4 None (Some 31))) ∷
+    at 9 (Do (Detach 6)) ∷
+    at 10 (RunTurns 4) ∷ [])
+
+-- its log
+abbrev pub exception_to_each_branch_log : List ℕ
+exception_to_each_branch_log = lines (codes "free 1" ∷
+    codes "free 3" ∷
+    codes "run 5 30 throw overloaded 1001" ∷
+    codes "free 5" ∷
+    codes "free 6" ∷
+    codes "free 2" ∷
+    codes "free 4" ∷
+    codes "run 7 31 throw overloaded 1001" ∷
+    codes "free 7" ∷
+    codes "free 8" ∷ [])
+
+-- the promise that the step gives takes the chain's place under the hub, which listens to it
+-- step 10 | promise 3 | pair 3 13 | later 1 | chain 2 1 10 - | fork 4 2 | branch 5 4 | then 6 5 20 - | detach 6 | turn | fulfil 13 8 | run 2
+abbrev pub hub_over_a_given_promise : Script
+hub_over_a_given_promise = script None (
+    body 10 [] (promised 3) ∷ []) (
+    at 3 (Do (Pair 3 13)) ∷
+    at 4 (Do (Later 1)) ∷
+    at 5 (Do (Chain 2 1 (Some 10) None)) ∷
+    at 6 (Do (Fork 4 2)) ∷
+    at 7 (Do (Branch 5 4)) ∷
+    at 8 (Do (Then 6 5 (Some 20) None)) ∷
+    at 9 (Do (Detach 6)) ∷
+    at 10 Turn ∷
+    at 11 (Do (Fulfil 13 (8 ∷ []))) ∷
+    at 12 (RunTurns 2) ∷ [])
+
+-- its log
+abbrev pub hub_over_a_given_promise_log : List ℕ
+hub_over_a_given_promise_log = lines (codes "free 2" ∷
+    codes "run 3 10 value" ∷
+    codes "free 3" ∷
+    codes "free 4" ∷
+    codes "free 1" ∷
+    codes "free 6" ∷
+    codes "run 7 20 value 8" ∷
+    codes "free 7" ∷
+    codes "free 8" ∷
     codes "free 5" ∷ [])

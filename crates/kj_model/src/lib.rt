@@ -4,7 +4,9 @@
 
 pub mod laws;
 pub mod order;
+pub mod owned;
 pub mod owning;
 pub mod refusing;
 pub mod sharing;
+pub mod stopping;
 pub mod waiting;

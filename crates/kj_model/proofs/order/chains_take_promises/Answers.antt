@@ -12,3 +12,7 @@ returns-clause-promise_loop c = refl
 pub returns-clause-promise_needs_a_chain : goal.returns-clause-promise_needs_a_chain
 unfolding digits free_to value_to
 returns-clause-promise_needs_a_chain c = refl
+
+pub returns-clause-chain_ready_in_place : goal.returns-clause-chain_ready_in_place
+unfolding digits free_to value_to
+returns-clause-chain_ready_in_place c = refl

@@ -12,3 +12,7 @@ returns-clause-last_in_reverse c = refl
 pub returns-clause-chain_over_last : goal.returns-clause-chain_over_last
 unfolding digits free_to value_to
 returns-clause-chain_over_last c = refl
+
+pub returns-clause-last_in_a_race : goal.returns-clause-last_in_a_race
+unfolding digits free_to value_to
+returns-clause-last_in_a_race c = refl

@@ -16,3 +16,11 @@ returns-clause-dropped_fulfiller c = refl
 pub returns-clause-exception_passes : goal.returns-clause-exception_passes
 unfolding digits free_to value_to
 returns-clause-exception_passes c = refl
+
+pub returns-clause-eager_keeps : goal.returns-clause-eager_keeps
+unfolding digits free_to value_to
+returns-clause-eager_keeps c = refl
+
+pub returns-clause-settled_once : goal.returns-clause-settled_once
+unfolding digits free_to value_to
+returns-clause-settled_once c = refl

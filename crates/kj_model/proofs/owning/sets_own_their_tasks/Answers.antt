@@ -16,3 +16,11 @@ returns-clause-clear_in_the_error_step c = refl
 pub returns-clause-one_promise_of_emptiness : goal.returns-clause-one_promise_of_emptiness
 unfolding digits free_to value_to
 returns-clause-one_promise_of_emptiness c = refl
+
+pub returns-clause-cleared_set_is_empty : goal.returns-clause-cleared_set_is_empty
+unfolding digits free_to value_to
+returns-clause-cleared_set_is_empty c = refl
+
+pub returns-clause-filled_in_the_error_step : goal.returns-clause-filled_in_the_error_step
+unfolding digits free_to value_to
+returns-clause-filled_in_the_error_step c = refl

@@ -20,3 +20,7 @@ returns-clause-order_of_causes c = refl
 pub returns-clause-outside_alone : goal.returns-clause-outside_alone
 unfolding digits free_to value_to
 returns-clause-outside_alone c = refl
+
+pub returns-clause-refused_in_a_step : goal.returns-clause-refused_in_a_step
+unfolding digits free_to value_to
+returns-clause-refused_in_a_step c = refl

@@ -32,3 +32,11 @@ returns-clause-no_place_twice c = refl
 pub returns-clause-chain_over_the_first_place : goal.returns-clause-chain_over_the_first_place
 unfolding digits free_to value_to
 returns-clause-chain_over_the_first_place c = refl
+
+pub returns-clause-full_by_places : goal.returns-clause-full_by_places
+unfolding digits free_to value_to
+returns-clause-full_by_places c = refl
+
+pub returns-clause-full_of_names : goal.returns-clause-full_of_names
+unfolding digits free_to value_to
+returns-clause-full_of_names c = refl

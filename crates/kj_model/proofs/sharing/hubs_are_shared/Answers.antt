@@ -16,3 +16,11 @@ returns-clause-closing_drops_references c = refl
 pub returns-clause-hub_that_fires_stays : goal.returns-clause-hub_that_fires_stays
 unfolding digits free_to value_to
 returns-clause-hub_that_fires_stays c = refl
+
+pub returns-clause-exception_to_each_branch : goal.returns-clause-exception_to_each_branch
+unfolding digits free_to value_to
+returns-clause-exception_to_each_branch c = refl
+
+pub returns-clause-hub_over_a_given_promise : goal.returns-clause-hub_over_a_given_promise
+unfolding digits free_to value_to
+returns-clause-hub_over_a_given_promise c = refl

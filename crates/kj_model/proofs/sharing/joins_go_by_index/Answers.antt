@@ -24,3 +24,7 @@ returns-clause-fast_goes_on c = refl
 pub returns-clause-too_many_words : goal.returns-clause-too_many_words
 unfolding digits free_to value_to
 returns-clause-too_many_words c = refl
+
+pub returns-clause-joins_of_none : goal.returns-clause-joins_of_none
+unfolding digits free_to value_to
+returns-clause-joins_of_none c = refl

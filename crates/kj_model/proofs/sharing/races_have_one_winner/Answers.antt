@@ -12,3 +12,7 @@ returns-clause-loser_is_disarmed c = refl
 pub returns-clause-loser_fires_without_effect : goal.returns-clause-loser_fires_without_effect
 unfolding digits free_to value_to
 returns-clause-loser_fires_without_effect c = refl
+
+pub returns-clause-loser_takes_the_hub : goal.returns-clause-loser_takes_the_hub
+unfolding digits free_to value_to
+returns-clause-loser_takes_the_hub c = refl

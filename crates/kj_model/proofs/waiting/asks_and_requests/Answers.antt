@@ -24,3 +24,19 @@ returns-clause-ask_replied c = refl
 pub returns-clause-abandoned_name_is_free : goal.returns-clause-abandoned_name_is_free
 unfolding digits free_to value_to
 returns-clause-abandoned_name_is_free c = refl
+
+pub returns-clause-request_of_a_promise : goal.returns-clause-request_of_a_promise
+unfolding digits free_to value_to
+returns-clause-request_of_a_promise c = refl
+
+pub returns-clause-asks_in_order : goal.returns-clause-asks_in_order
+unfolding digits free_to value_to
+returns-clause-asks_in_order c = refl
+
+pub returns-clause-ask_dropped_in_its_step : goal.returns-clause-ask_dropped_in_its_step
+unfolding digits free_to value_to
+returns-clause-ask_dropped_in_its_step c = refl
+
+pub returns-clause-request_again : goal.returns-clause-request_again
+unfolding digits free_to value_to
+returns-clause-request_again c = refl

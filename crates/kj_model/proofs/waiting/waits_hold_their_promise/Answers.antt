@@ -12,3 +12,7 @@ returns-clause-name_taken_meanwhile c = refl
 pub returns-clause-name_counts_meanwhile : goal.returns-clause-name_counts_meanwhile
 unfolding digits free_to value_to
 returns-clause-name_counts_meanwhile c = refl
+
+pub returns-clause-awaited_again : goal.returns-clause-awaited_again
+unfolding digits free_to value_to
+returns-clause-awaited_again c = refl
