@@ -1,3 +1,5 @@
 pub mod Commands
+pub mod Places
 pub mod Queue
 pub mod Record
+pub mod Store

@@ -5,6 +5,7 @@ use Rattle.kj_base.specs.declared.numbers.Limits.{Limits}
 use Rattle.kj_base.specs.Commands.{Action}
 use Rattle.kj_base.specs.Queue.{Events, no_events}
 use Rattle.kj_base.specs.Record.{Item}
+pub use Rattle.kj_base.specs.Places.{Spot, Row}
 use Rattle.kj_model.specs.Nodes.{Entry}
 
 -- what a name holds; numbers are of nodes
@@ -25,17 +26,6 @@ pub data Held : Type 0 where
 pub record Named : Type 0 where
   pub name : ℕ
   pub held : Held
-
--- the arena of a live node, and its place there
-pub record Spot : Type 0 where
-  pub number : ℕ
-  pub key : ℕ
-  pub place : ℕ
-
--- so many nodes, placed one before the other, the first of them before this node or anew
-pub record Row : Type 0 where
-  pub before : Option ℕ
-  pub count : ℕ
 
 -- the tree that a wait awaits, with its name
 pub record Awaited : Type 0 where

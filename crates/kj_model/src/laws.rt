@@ -1,5 +1,7 @@
 //! Laws of the definitions.
-ghost use Rattle.std.specs.Prelude.{◌≡◌, ℕ, Bool, true, false, List, [], ◌≤◌, ◌<◌, length, Some};
+ghost use Rattle.std.specs.Prelude.{◌≡◌, ℕ, Bool, true, false, List, [], ◌∷◌, ◌++◌, ◌≤◌, ◌<◌, length, Option, Some};
+ghost use Rattle.kj_base.specs.Places.{spot_placed};
+ghost use Rattle.kj_model.specs.Places.{placed};
 ghost use Rattle.kj_base.specs.Commands.{Command};
 ghost use Rattle.kj_base.specs.Queue.{Events, Way, IsQueue, is_armed, armed, disarmed, taken, rewound, no_events};
 ghost use Rattle.kj_model.specs.Apply.{Refused, refusal, apply};
@@ -9,7 +11,7 @@ ghost use Rattle.kj_model.specs.Free.{Guard, Every, free_to};
 ghost use Rattle.kj_model.specs.Grown.{Grows};
 ghost use Rattle.kj_model.specs.Nodes.{Entry};
 ghost use Rattle.kj_model.specs.Trees.{tree_numbers, AreApart, HubsStay, Frees};
-ghost use Rattle.kj_model.specs.World.{State, Setting};
+ghost use Rattle.kj_model.specs.World.{World, State, Setting};
 
 /// Each operation of the queue keeps its points in order and its events apart.
 pub fn queue_is_kept()
@@ -52,4 +54,9 @@ pub fn tree_is_whole()
 pub fn record_grows()
     ensures one { (setting : Setting) (c : Call) (s : State) → Grows s (call setting c s).0 }
     ensures all { (setting : Setting) (cs : List Call) (s : State) → Grows s (calls setting cs s).0 }
+{}
+
+/// A node that is placed adds the one spot that stores place it at.
+pub fn placing_goes_by_the_store()
+    ensures { (before : Option ℕ) (w : World) → (placed before w).spots ≡ w.spots ++ spot_placed w.next w.next_key before w.spots ∷ [] }
 {}
