@@ -1,0 +1,18 @@
+//! Recordings of what connections sent, the replies that were written to them, and a generator of recordings.
+#![tactic(auto)]
+
+mod generated;
+mod generator;
+mod number;
+mod print;
+mod read;
+mod records;
+mod replies;
+#[cfg(test)]
+mod tests;
+
+pub use generated::make_recording;
+pub use print::{print_records, print_replies};
+pub use read::{RecordRefused, one_recording, read_records};
+pub use records::Records;
+pub use replies::Replies;
