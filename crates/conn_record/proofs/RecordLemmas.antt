@@ -1,9 +1,9 @@
 -- Connections one after another.
-use Rattle.std.proofs.Common.{◌≡◌, ◌≢◌, ℕ, zero, suc, ◌+◌, ◌^◌, ◌<◌, ◌≤◌, false, nat_eq, List, [], ◌∷◌, ◌++◌, length, drop, ◌⊎◌, sym, ap, ◌∙◌, refl, arith, inl, inr}
+use Rattle.std.proofs.Common.{◌≡◌, ◌≢◌, ℕ, suc, ◌^◌, ◌<◌, ◌≤◌, false, nat_eq, List, [], ◌∷◌, ◌++◌, length, drop, ◌⊎◌, sym, ap, ◌∙◌, refl, arith, inl, inr}
 use Rattle.std.specs.Prelude.{decimal, codes, All}
 use Rattle.std.proofs.lemmas.Bool.{cases_lt}
 use Rattle.std.proofs.lemmas.List.{append_cancel_left, append_assoc, append-nil, length-append}
-use Rattle.conn_record.specs.Records.{conn_text, conns_text, record_text, HasNoConn, IsRecording, IsNoRecording, BeginsWith}
+use Rattle.conn_record.specs.Records.{conn_text, conns_text, record_text, HasNoConn, IsNoRecording, BeginsWith}
 use Rattle.conn_record.proofs.NumberLemmas.{number_unique}
 
 -- a connection in its parts

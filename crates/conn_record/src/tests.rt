@@ -70,29 +70,34 @@ fn texts_that_are_no_recording(rt: HostRuntime) -> Result<(), Fail> {
 #[test]
 fn recordings_are_read_as_they_were_printed(rt: HostRuntime) -> Result<(), Fail> {
     let alloc = rt.alloc();
-    let mut records = Records::new(alloc);
-    let mut replies = Replies::new(alloc);
     let none = read_records(alloc, b"kjrec 1\n")?;
     assert!(&rt; none.len() == 0);
-    for octets in [
-        b"".as_slice(),
-        b"\n".as_slice(),
-        b"conn 1\n\r\xff".as_slice(),
-    ] {
-        records.push(Bytes::from_slice(alloc, octets)?)?;
+    let text = b"kjrec 1\nconn 0\n\nconn 1\n\n\nconn 9\nconn 1\n\r\xff\n";
+    let records = read_records(alloc, text)?;
+    assert!(&rt; records.len() == 3);
+    let printed = print_records(alloc, &records)?;
+    assert!(&rt; printed.as_slice() == text.as_slice());
+    let mut one = Records::new(alloc);
+    one.push(Bytes::from_slice(alloc, b"\r\n")?)?;
+    let printed = print_records(alloc, &one)?;
+    assert!(&rt; printed.as_slice() == b"kjrec 1\nconn 2\n\r\n\n".as_slice());
+    Ok(())
+}
+
+#[test]
+fn replies_are_printed_in_order(rt: HostRuntime) -> Result<(), Fail> {
+    let alloc = rt.alloc();
+    let mut replies = Replies::new(alloc);
+    let none = print_replies(alloc, &replies)?;
+    assert!(&rt; none.as_slice() == b"kjrep 1\n".as_slice());
+    for octets in [b"b".as_slice(), b"".as_slice(), b"a\n".as_slice()] {
         replies.push(Bytes::from_slice(alloc, octets)?)?;
     }
-    let text = print_records(alloc, &records)?;
-    assert!(&rt;
-        text.as_slice() == b"kjrec 1\nconn 0\n\nconn 1\n\n\nconn 9\nconn 1\n\r\xff\n".as_slice()
-    );
+    assert!(&rt; replies.len() == 3 && replies.as_slice().len() == 3);
     let written = print_replies(alloc, &replies)?;
-    assert!(&rt;
-        written.as_slice() == b"kjrep 1\nconn 0\n\nconn 1\n\n\nconn 9\nconn 1\n\r\xff\n".as_slice()
-    );
-    let again = read_records(alloc, text.as_slice())?;
-    assert!(&rt; again.len() == 3);
-    let printed = print_records(alloc, &again)?;
-    assert!(&rt; printed.as_slice() == text.as_slice());
+    assert!(&rt; written.as_slice() == b"kjrep 1\nconn 1\nb\nconn 0\n\nconn 2\na\n\n".as_slice());
+    let again = Replies::from_vec(replies.into_vec());
+    let once_more = print_replies(alloc, &again)?;
+    assert!(&rt; once_more.as_slice() == written.as_slice());
     Ok(())
 }

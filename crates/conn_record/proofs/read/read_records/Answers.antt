@@ -1,4 +1,4 @@
-use Rattle.std.proofs.Common.{◌≡◌, ℕ, ◌<◌, ◌^◌, length, sym, ap, ◌∙◌, arith, inr}
+use Rattle.std.proofs.Common.{◌≡◌, length, arith, inr}
 use Rattle.conn_record.proofs.RecordLemmas.{most_conns, no_recording, some_left}
 use Rattle.conn_record.proofs.read.read_records.Goals as goal
 
