@@ -1,0 +1,5 @@
+pub mod Chunks
+pub mod Reader
+pub mod Steps
+pub mod Progress
+pub mod Lengths

@@ -1,0 +1,74 @@
+//! A chunked body that comes in pieces.
+ghost use Rattle.std.specs.Prelude.{◌≡◌, ℕ, List, [], IfOk, OnErr};
+ghost use Rattle.http_frames.specs.Progress.{IsFed, Answers, phase_after};
+
+use crate::reader::{Reader, Step};
+use crate::{Frame, Phase};
+use http_heads::Fields;
+use kj_base::{Bytes, NoMemory};
+use std::alloc::Global;
+use std::marker::Model;
+
+/// A decoder of a body in chunks with its trailer (RFC 9112, section 7.1).
+#[derive(Debug, Drop)]
+pub struct Chunks {
+    reader: Reader,
+    trailer: Fields,
+    phase: Phase,
+}
+
+impl Model for Chunks {
+    ghost use Rattle.std.specs.Prelude.{◌≡◌};
+    ghost use Rattle.http_frames.specs.Progress.{Progress};
+    ghost use Rattle.http_frames.specs.Steps.{IsSoundReader};
+    ghost use Rattle.http_frames.specs.declared.Phase.TheVariants.{Going};
+
+    ghost Value = { Progress };
+
+    ghost view = { λ c. record { body = c.reader.body; pending = c.reader.pending; stage = c.reader.stage; trailer = c.trailer; phase = c.phase } };
+
+    ghost invariant = { λ c. c.phase ≡ Going → IsSoundReader c.reader };
+}
+
+impl Chunks {
+    pub fn new(alloc: Global) -> Chunks
+        ensures going { result.phase ≡ Phase.Going }
+        ensures fed { IsFed result [] }
+    {
+        Chunks {
+            reader: Reader::new(alloc),
+            trailer: Fields::new(alloc),
+            phase: Phase::Going,
+        }
+    }
+
+    /// Takes the next piece of the body. After want of memory it takes no more.
+    pub fn feed(&mut self, piece: &[u8]) -> Result<Frame, NoMemory>
+        requires { self.old.phase ≡ Phase.Going }
+        ensures answer { IfOk result (λ frame. (bytes : List ℕ) → IsFed self.old bytes → Answers bytes piece.now self.new frame) }
+        ensures phase { IfOk result (λ frame. self.new.phase ≡ phase_after frame) }
+        ensures err { OnErr result (self.new.phase ≡ Phase.Over) }
+    {
+        self.phase = Phase::Over;
+        match self.reader.read(piece)? {
+            Step::Took(_) => {
+                self.phase = Phase::Going;
+                Ok(Frame::More)
+            }
+            Step::Whole(trailer, count) => {
+                self.trailer = trailer;
+                self.phase = Phase::Done;
+                Ok(Frame::Whole(count))
+            }
+            Step::Bad => Ok(Frame::Bad),
+        }
+    }
+
+    /// The body, once it is whole; the trailer is dropped. Takes no memory.
+    pub fn body(self) -> Bytes
+        requires { self.phase ≡ Phase.Done }
+        ensures { result ≡ self.body }
+    {
+        self.reader.body
+    }
+}
