@@ -4,6 +4,7 @@ use Rattle.std.specs.Prelude.{IsTrue}
 use Rattle.std.proofs.lemmas.List.{append-nil, append_assoc, length-append, take_at, drop_at}
 use Rattle.http_heads.specs.declared.field.Field.{Field}
 use Rattle.http_heads.specs.Section.{StartsWithSection, HasNoSection, NeverHasSection}
+use Rattle.http_heads.proofs.SectionLemmas.{section_append, section_only}
 use Rattle.http_frames.specs.Chunks.{is_size_line, size_of, line_text, Chunk, chunk_text, IsChunk, IsLast, IsTrailer, texts, contents, AreChunks, Chunked, Body, HasNoBody, NeverHasBody, NoCr, AwaitsLine, AwaitsData, AwaitsTrailer, Waits}
 use Rattle.http_frames.proofs.LineLemmas.{first_cr_unique, cr_behind, line_no_cr, line_short}
 
@@ -55,6 +56,10 @@ pub one_line : (line other rest q : List ℕ) → IsTrue (is_size_line line) →
 one_line line other rest q sized also h =
     let found = first_cr_unique line other (10 ∷ rest) (10 ∷ q) (line_no_cr line sized) (line_no_cr other also) h in
     (found.0, cc (found.1))
+
+-- a chunk, with more behind
+chunk_more : (c : Chunk) (rest more : List ℕ) → chunk_text c rest ++ more ≡ chunk_text c (rest ++ more)
+chunk_more c rest more = append_assoc c.line (13 ∷ 10 ∷ line_text c.data_bytes rest) more ∙ ap (line_text c.line) (append_assoc c.data_bytes (13 ∷ 10 ∷ rest) more)
 
 last_no_chunk : (line : List ℕ) (c : Chunk) (r q : List ℕ) → IsLast line → IsChunk c → chunk_text c r ≡ line_text line q → ⊥
 last_no_chunk line c r q is other h =
@@ -182,3 +187,29 @@ body_text bytes body cs line after trailer rest text body_is small are is at = r
   text = subst (λ (b : List ℕ). Chunked cs b body trailer rest) (sym text) (subst (λ (b : List ℕ). Chunked cs (texts cs (line_text line after)) b trailer rest) (sym body_is) (chunked_text cs line after trailer rest are is at));
   small = small;
 }
+
+-- ---- one body
+
+same_body : (cs ds : List Chunk) (bytes more all body other : List ℕ) (trailer fields : List Field) (rest behind : List ℕ) → all ≡ bytes ++ more → Chunked cs bytes body trailer rest → Chunked ds all other fields behind → (body ≡ other) × (trailer ≡ fields) × (behind ≡ rest ++ more)
+same_body [] [] bytes more all body other trailer fields rest behind h x y =
+    let lines = known_line bytes x.0 x.1 x.3 x.2.sized more y.0 y.1 y.2.sized (sym h ∙ y.3) in
+    let trailers = section_only x.1 more trailer fields x.5.0 y.5.0 rest behind x.5.1 (subst (λ (t : List ℕ). StartsWithSection t fields y.5.0 behind) (sym lines.1) y.5.1) in
+    (x.4 ∙ sym y.4, trailers.0, trailers.2)
+same_body [] (d ∷ ds) bytes more all body other trailer fields rest behind h x y =
+    absurd (last_no_chunk x.0 d y.0 (x.1 ++ more) x.2 y.2 (sym y.3 ∙ h ∙ ap (λ (b : List ℕ). b ++ more) x.3 ∙ append_assoc x.0 (13 ∷ 10 ∷ x.1) more))
+same_body (c ∷ cs) [] bytes more all body other trailer fields rest behind h x y =
+    absurd (last_no_chunk y.0 c (x.0 ++ more) y.1 y.2 x.2 (sym (chunk_more c x.0 more) ∙ ap (λ (b : List ℕ). b ++ more) (sym x.3) ∙ sym h ∙ y.3))
+same_body (c ∷ cs) (d ∷ ds) bytes more all body other trailer fields rest behind h x y =
+    let same = chunk_unique c d (x.0 ++ more) y.0 x.2 y.2 (sym (chunk_more c x.0 more) ∙ ap (λ (b : List ℕ). b ++ more) (sym x.3) ∙ sym h ∙ y.3) in
+    let later = same_body cs ds x.0 more y.0 x.1 y.1 trailer fields rest behind (sym same.1) x.5 y.5 in
+    (x.4 ∙ (λ i. same.0 i ++ later.0 i) ∙ sym y.4, later.1, later.2)
+
+pub body_only : (bytes more body other : List ℕ) (trailer fields : List Field) (rest behind : List ℕ) → Body bytes body trailer rest → Body (bytes ++ more) other fields behind → (body ≡ other) × (trailer ≡ fields) × (behind ≡ rest ++ more)
+body_only bytes more body other trailer fields rest behind x y = same_body x.chunks y.chunks bytes more (bytes ++ more) body other trailer fields rest behind refl x.text y.text
+
+chunked_append : (cs : List Chunk) (bytes more body : List ℕ) (trailer : List Field) (rest : List ℕ) → Chunked cs bytes body trailer rest → Chunked cs (bytes ++ more) body trailer (rest ++ more)
+chunked_append [] bytes more body trailer rest x = (x.0, x.1 ++ more, x.2, ap (λ (b : List ℕ). b ++ more) x.3 ∙ append_assoc x.0 (13 ∷ 10 ∷ x.1) more, x.4, (x.5.0, section_append x.1 more trailer x.5.0 rest x.5.1))
+chunked_append (c ∷ cs) bytes more body trailer rest x = (x.0 ++ more, x.1, x.2, ap (λ (b : List ℕ). b ++ more) x.3 ∙ chunk_more c x.0 more, x.4, chunked_append cs x.0 more x.1 trailer rest x.5)
+
+pub body_append : (bytes more body : List ℕ) (trailer : List Field) (rest : List ℕ) → Body bytes body trailer rest → Body (bytes ++ more) body trailer (rest ++ more)
+body_append bytes more body trailer rest x = record { chunks = x.chunks; text = chunked_append x.chunks bytes more body trailer rest x.text; small = x.small }

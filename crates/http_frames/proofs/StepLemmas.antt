@@ -8,6 +8,7 @@ use Rattle.http_heads.specs.declared.field.Field.{Field}
 use Rattle.http_heads.specs.Section.{StartsWithSection, HasNoSection, NeverHasSection}
 use Rattle.httparse.specs.Grammar.{print_section}
 use Rattle.http_heads.proofs.FrontLemmas.{front_inside}
+use Rattle.http_heads.proofs.SectionLemmas.{section_append}
 use Rattle.http_heads.proofs.EndingLemmas.{section_ends, section_inside}
 use Rattle.http_frames.specs.declared.reader.Stage.{Stage}
 use Rattle.http_frames.specs.declared.reader.Stage.TheVariants as stages
@@ -268,18 +269,6 @@ section_cut bytes fields len rest has =
     let front = print_section has.lines has.last in
     let cut : take len bytes ≡ front ++ [] = ap (take len) has.reads.1 ∙ take_at front rest len (sym has.len_is) ∙ sym (append-nil front) in
     record { lines = has.lines; last = has.last; reads = (has.reads.0, cut); few = has.few; len_is = has.len_is; short = has.short; parts = has.parts }
-
--- with more behind
-section_append : (bytes more : List ℕ) (fields : List Field) (len : ℕ) (rest : List ℕ) → StartsWithSection bytes fields len rest → StartsWithSection (bytes ++ more) fields len (rest ++ more)
-section_append bytes more fields len rest has = record {
-  lines = has.lines;
-  last = has.last;
-  reads = (has.reads.0, ap (λ (b : List ℕ). b ++ more) has.reads.1 ∙ append_assoc (print_section has.lines has.last) rest more);
-  few = has.few;
-  len_is = has.len_is;
-  short = has.short;
-  parts = has.parts;
-}
 
 more_trailer : (tail pending x : List ℕ) → (h : HasLast tail pending) → tail ++ x ≡ line_text h.line (pending ++ x)
 more_trailer tail pending x h = ap (λ (t : List ℕ). t ++ x) h.text ∙ append_assoc h.line (13 ∷ 10 ∷ pending) x

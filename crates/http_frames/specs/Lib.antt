@@ -3,3 +3,4 @@ pub mod Reader
 pub mod Steps
 pub mod Progress
 pub mod Lengths
+pub mod Written

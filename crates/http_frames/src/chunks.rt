@@ -1,5 +1,7 @@
 //! A chunked body that comes in pieces.
-ghost use Rattle.std.specs.Prelude.{◌≡◌, ℕ, List, [], IfOk, OnErr};
+ghost use Rattle.std.specs.Prelude.{◌≡◌, ℕ, List, [], ◌++◌, IfOk, OnErr};
+ghost use Rattle.http_heads.specs.declared.field.Field.{Field};
+ghost use Rattle.http_frames.specs.Chunks.{Body};
 ghost use Rattle.http_frames.specs.Progress.{IsFed, Answers, phase_after};
 
 use crate::reader::{Reader, Step};
@@ -72,3 +74,13 @@ impl Chunks {
         self.reader.body
     }
 }
+
+/// Octets begin with at most one body, whatever follows it.
+pub fn one_body()
+    ensures { (bytes more body other : List ℕ) (trailer fields : List Field) (rest behind : List ℕ) → Body bytes body trailer rest → Body (bytes ++ more) other fields behind → (body ≡ other) × (trailer ≡ fields) × (behind ≡ rest ++ more) }
+{}
+
+/// A body stays one, whatever follows it.
+pub fn body_stays()
+    ensures { (bytes more body : List ℕ) (trailer : List Field) (rest : List ℕ) → Body bytes body trailer rest → Body (bytes ++ more) body trailer (rest ++ more) }
+{}

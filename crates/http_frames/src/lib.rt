@@ -6,9 +6,11 @@ mod chunks;
 mod lengths;
 mod line;
 mod reader;
+mod write;
 
-pub use chunks::Chunks;
+pub use chunks::{Chunks, body_stays, one_body};
 pub use lengths::Lengths;
+pub use write::write_chunk;
 
 /// What a piece of a body did.
 #[derive(Clone, Copy, Debug, PartialEq, Eq)]

@@ -47,3 +47,6 @@ head_unique bytes more a b m n x y =
       x.4.1.parts ∙ ap head_of same.0 ∙ sym y.4.1.parts,
       x.3 ∙ ap length x.4.1.text ∙ ap (λ (t : RequestHead). length (print_request t)) same.0 ∙ sym (y.3 ∙ ap length y.4.1.text),
     )
+
+pub head_append : (bytes more : List ℕ) (head : Head) (len : ℕ) → StartsWithHead bytes head len → StartsWithHead (bytes ++ more) head len
+head_append bytes more head len has = (has.0, has.1 ++ more, ap (λ (b : List ℕ). b ++ more) has.2 ∙ append_assoc has.0 has.1 more, has.3, has.4)

@@ -1,10 +1,11 @@
 -- Sections at the front of a list.
-use Rattle.std.proofs.Common.{◌≡◌, ℕ, ◌<◌, ◌≤◌, List, ◌++◌, length, take, drop, ap, sym, ◌∙◌, arith, append_assoc, length-append}
+use Rattle.std.proofs.Common.{◌≡◌, ℕ, ◌<◌, ◌≤◌, List, ◌++◌, length, take, drop, map, ap, sym, ◌∙◌, arith, append_assoc, length-append}
 use Rattle.std.proofs.lemmas.List.{length-take, take_all}
 use Rattle.httparse.specs.Grammar.{print_section}
+use Rattle.httparse.proofs.GrammarLemmas.{section_unique, ReadsSection-append}
 use Rattle.http_heads.specs.declared.field.Field.{Field}
 use Rattle.http_heads.specs.declared.SectionRead.TheVariants.{Whole, More, Crowded, Bad}
-use Rattle.http_heads.specs.Section.{ReadsAs, ParsesAs, NeverHasSection}
+use Rattle.http_heads.specs.Section.{ReadsAs, ParsesAs, StartsWithSection, NeverHasSection, field_of}
 use Rattle.http_heads.proofs.FrontLemmas.{front_inside, whole_of_front, followed}
 
 pub section_from_front : (bytes front : List ℕ) (fields : List Field) (len : ℕ) → front ≡ take 65536 bytes → ParsesAs front (Whole fields len) → ReadsAs bytes (Whole fields len)
@@ -40,3 +41,23 @@ never_section_from_bad bytes front h found = λ more fields len rest has.
 pub never_section_from_crowded : (bytes front : List ℕ) → front ≡ take 65536 bytes → ParsesAs front Crowded → NeverHasSection bytes
 never_section_from_crowded bytes front h found = λ more fields len rest has.
     omega (arith, found (drop 65536 bytes ++ more) has.lines has.last rest (has.reads.0, sym (followed bytes front more h) ∙ has.reads.1), has.few)
+
+-- with more behind
+pub section_append : (bytes more : List ℕ) (fields : List Field) (len : ℕ) (rest : List ℕ) → StartsWithSection bytes fields len rest → StartsWithSection (bytes ++ more) fields len (rest ++ more)
+section_append bytes more fields len rest has = record {
+  lines = has.lines;
+  last = has.last;
+  reads = ReadsSection-append bytes has.lines has.last rest more has.reads;
+  few = has.few;
+  len_is = has.len_is;
+  short = has.short;
+  parts = has.parts;
+}
+
+pub section_only : (bytes more : List ℕ) (a b : List Field) (m n : ℕ) (rest other : List ℕ) → StartsWithSection bytes a m rest → StartsWithSection (bytes ++ more) b n other → (a ≡ b) × (m ≡ n) × (other ≡ rest ++ more)
+section_only bytes more a b m n rest other x y =
+    let same = section_unique (bytes ++ more) x.lines y.lines x.last y.last (rest ++ more) other (ReadsSection-append bytes x.lines x.last rest more x.reads) y.reads in (
+      x.parts ∙ ap (map field_of) same.0 ∙ sym y.parts,
+      x.len_is ∙ (λ i. length (print_section (same.0 i) (same.1 i))) ∙ sym y.len_is,
+      sym same.2,
+    )

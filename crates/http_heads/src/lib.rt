@@ -14,8 +14,8 @@ pub mod text;
 pub use ending::{brings_head, brings_section};
 pub use field::{Field, Fields, Head};
 pub use front::{MAX_OCTETS, front_of};
-pub use read::{one_head, read_head};
-pub use section::read_section;
+pub use read::{head_stays, one_head, read_head};
+pub use section::{one_section, read_section, section_stays};
 
 /// What the front of a stream is, read as the head of a request.
 #[derive(Debug, Drop)]

@@ -72,3 +72,8 @@ pub fn read_head(alloc: Global, bytes: &[u8]) -> Result<HeadRead, NoMemory>
 pub fn one_head()
     ensures { (bytes more : List ℕ) (a b : Head) (m n : ℕ) → StartsWithHead bytes a m → StartsWithHead (bytes ++ more) b n → (a ≡ b) × (m ≡ n) }
 {}
+
+/// A head stays one, whatever follows it.
+pub fn head_stays()
+    ensures { (bytes more : List ℕ) (head : Head) (len : ℕ) → StartsWithHead bytes head len → StartsWithHead (bytes ++ more) head len }
+{}

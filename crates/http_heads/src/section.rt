@@ -1,7 +1,7 @@
 //! Sections of header fields: the lines of a head behind its start line, or a trailer.
-ghost use Rattle.std.specs.Prelude.{◌≡◌, ◌<◌, length, take, map, IfOk, Ok};
+ghost use Rattle.std.specs.Prelude.{◌≡◌, ◌<◌, List, ℕ, ◌++◌, length, take, map, IfOk, Ok};
 ghost use Rattle.httparse.specs.Spans.{IsSectionWithin, header_bytes};
-ghost use Rattle.http_heads.specs.Section.{ReadsAs, ParsesAs, name_and_value};
+ghost use Rattle.http_heads.specs.Section.{ReadsAs, ParsesAs, StartsWithSection, name_and_value};
 
 use crate::SectionRead;
 use crate::field::{Field, Fields};
@@ -67,3 +67,13 @@ pub fn read_section(alloc: Global, bytes: &[u8]) -> Result<SectionRead, NoMemory
         SectionRead::Bad => Ok(SectionRead::Bad),
     }
 }
+
+/// Octets begin with at most one section, whatever follows it.
+pub fn one_section()
+    ensures { (bytes more : List ℕ) (a b : List Field) (m n : ℕ) (rest other : List ℕ) → StartsWithSection bytes a m rest → StartsWithSection (bytes ++ more) b n other → (a ≡ b) × (m ≡ n) × (other ≡ rest ++ more) }
+{}
+
+/// A section stays one, whatever follows it.
+pub fn section_stays()
+    ensures { (bytes more : List ℕ) (fields : List Field) (len : ℕ) (rest : List ℕ) → StartsWithSection bytes fields len rest → StartsWithSection (bytes ++ more) fields len (rest ++ more) }
+{}
