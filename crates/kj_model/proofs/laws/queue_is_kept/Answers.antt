@@ -1,4 +1,4 @@
-use Rattle.kj_model.proofs.Kept.{armed_keeps, disarmed_keeps, taken_keeps, rewound_keeps, empty_is}
+use Rattle.kj_base.proofs.QueueLemmas.{armed_keeps, disarmed_keeps, taken_keeps, rewound_keeps, empty_is}
 use Rattle.kj_model.proofs.laws.queue_is_kept.Goals as goal
 
 pub returns-clause-empty : goal.returns-clause-empty

@@ -10,23 +10,23 @@ use Rattle.kj_base.specs.Queue.{Events, Way, DepthFirst, BreadthFirst, AtLast, I
 swapped : (a b : ℕ) → nat_eq a b ≡ false → nat_eq b a ≡ false
 swapped a b h = grind (arith, nat_tests)
 
-others : (xs : List ℕ) (e : ℕ) → list_any (λ x. x == e) xs ≡ false → AllByRecursion (λ y. nat_eq e y ≡ false) xs
+pub others : (xs : List ℕ) (e : ℕ) → list_any (λ x. x == e) xs ≡ false → AllByRecursion (λ y. nat_eq e y ≡ false) xs
 others [] e h = tt
 others (x ∷ xs) e h = let p = or_parts (nat_eq x e) (list_any (λ x. x == e) xs) h in (swapped x e p.0, others xs e p.1)
 
-all_insert : (P : ℕ → Type 0) (xs : List ℕ) (i e : ℕ) → P e → AllByRecursion P xs → AllByRecursion P (insert xs i e)
+pub all_insert : (P : ℕ → Type 0) (xs : List ℕ) (i e : ℕ) → P e → AllByRecursion P xs → AllByRecursion P (insert xs i e)
 all_insert P [] zero e p h = (p, tt)
 all_insert P [] (suc i) e p h = (p, tt)
 all_insert P (x ∷ xs) zero e p h = (p, h)
 all_insert P (x ∷ xs) (suc i) e p h = (h.0, all_insert P xs i e p h.1)
 
-all_remove : (P : ℕ → Type 0) (xs : List ℕ) (i : ℕ) → AllByRecursion P xs → AllByRecursion P (remove xs i)
+pub all_remove : (P : ℕ → Type 0) (xs : List ℕ) (i : ℕ) → AllByRecursion P xs → AllByRecursion P (remove xs i)
 all_remove P [] zero h = tt
 all_remove P [] (suc i) h = tt
 all_remove P (x ∷ xs) zero h = h.1
 all_remove P (x ∷ xs) (suc i) h = (h.0, all_remove P xs i h.1)
 
-apart_insert : (xs : List ℕ) (i e : ℕ) → list_any (λ x. x == e) xs ≡ false → IsDistinct nat_eq xs → IsDistinct nat_eq (insert xs i e)
+pub apart_insert : (xs : List ℕ) (i e : ℕ) → list_any (λ x. x == e) xs ≡ false → IsDistinct nat_eq xs → IsDistinct nat_eq (insert xs i e)
 unfolding IsDistinct
 apart_insert [] zero e n h = (tt, tt)
 apart_insert [] (suc i) e n h = (tt, tt)
@@ -42,7 +42,7 @@ apart_remove [] (suc i) h = tt
 apart_remove (x ∷ xs) zero h = h.1
 apart_remove (x ∷ xs) (suc i) h = (all_remove _ xs i h.0, apart_remove xs i h.1)
 
-inserted : (e i d b : ℕ) (q : Events) → IsQueue q → list_any (λ x. x == e) q.list ≡ false → i ≤ length q.list → d ≤ b → b ≤ length q.list + 1 → IsQueue (record { list = insert q.list i e; depth = d; breadth = b })
+pub inserted : (e i d b : ℕ) (q : Events) → IsQueue q → list_any (λ x. x == e) q.list ≡ false → i ≤ length q.list → d ≤ b → b ≤ length q.list + 1 → IsQueue (record { list = insert q.list i e; depth = d; breadth = b })
 inserted e i d b q k a il db bl = record {
   depth = db;
   breadth = omega (arith, length-insert q.list i e il);
@@ -55,7 +55,7 @@ lower p d b h = grind (arith, nat_tests)
 lower_within : (p b n : ℕ) → b ≤ n → p < n → falls p b + 1 ≤ n
 lower_within p b n h l = grind (arith, nat_tests)
 
-removed : (i : ℕ) (q : Events) → IsQueue q → i < length q.list → IsQueue (without_place i q)
+pub removed : (i : ℕ) (q : Events) → IsQueue q → i < length q.list → IsQueue (without_place i q)
 removed i q k il = record {
   depth = lower i q.depth q.breadth k.depth;
   breadth = omega (arith, length-remove q.list i il, lower_within i q.breadth (length q.list) k.breadth il);
