@@ -1,0 +1,5 @@
+pub mod Searches
+pub mod Moves
+pub mod Steps
+pub mod Weights
+pub mod Laws

@@ -1,0 +1,123 @@
+-- Histories of a board: which are legal, what board they leave, and what the entries of one caller tell.
+use Rattle.std.specs.Prelude.{◌≡◌, ◌≢◌, ℕ, ◌+◌, ◌≤◌, ◌==◌, Bool, true, false, cond, List, [], ◌∷◌, slice_get, Option, Some, None}
+use Rattle.std.specs.List.{filter}
+use Rattle.executor_core.specs.declared.request.Request.{Request}
+use Rattle.executor_core.specs.declared.entry.Entry.{Entry}
+use Rattle.executor_core.specs.declared.call.Call.{Call}
+use Rattle.executor_core.specs.declared.call.Call.TheVariants.{Finish, Cancel, Collect, Close}
+use Rattle.executor_core.specs.declared.call.Reply.{Reply}
+use Rattle.executor_core.specs.declared.call.Reply.TheVariants.{Ticket, Start, Withdrawn, Ended}
+use Rattle.executor_core.specs.Acts.{Desk, desk, act, MayAct, queued_state, ended_state}
+
+abbrev pub entry : ℕ → Call → Reply → Entry
+entry c call reply = record { caller = c; call = call; reply = reply }
+
+-- the board that entries leave
+abbrev pub after : Desk → List Entry → Desk
+after d [] = d
+after d (e ∷ es) = after (act d e.caller e.call).0 es
+
+-- each entry is a call that its caller may make, its reply is the board's, and it changes the board
+abbrev pub LegalFrom : Desk → List Entry → Type 0
+LegalFrom d [] = Unit {0}
+LegalFrom d (e ∷ es) = MayAct d e.caller e.call × ((act d e.caller e.call).1 ≡ e.reply) × ((act d e.caller e.call).0 ≢ d) × LegalFrom (act d e.caller e.call).0 es
+
+-- the board of an executor before any call
+abbrev pub fresh : ℕ → Desk
+fresh limit = desk limit false []
+
+abbrev pub Legal : ℕ → List Entry → Type 0
+Legal limit es = LegalFrom (fresh limit) es
+
+abbrev pub board_of : ℕ → List Entry → Desk
+board_of limit es = after (fresh limit) es
+
+-- how many entries pass
+abbrev pub times : (Entry → Bool) → List Entry → ℕ
+times p [] = 0
+times p (e ∷ es) = cond (p e) 1 0 + times p es
+
+-- the entries of one caller
+abbrev pub of_caller : ℕ → List Entry → List Entry
+of_caller c es = filter (λ e. e.caller == c) es
+
+-- the request is submitted by the entry
+abbrev pub submits : ℕ → Reply → Bool
+submits r (Ticket n) = n == r
+submits r _ = false
+
+-- the request starts at the entry
+abbrev pub starts : ℕ → Reply → Bool
+starts r (Start n step words) = n == r
+starts r _ = false
+
+-- the target finishes the request by the entry
+abbrev pub finishes : ℕ → Call → Bool
+finishes r (Finish n o) = n == r
+finishes r _ = false
+
+-- the request is Spent after the entry
+abbrev pub spends : ℕ → Call → Reply → Bool
+spends r (Cancel n) Withdrawn = n == r
+spends r (Collect n) (Ended o) = n == r
+spends r _ _ = false
+
+abbrev pub is_submit : ℕ → Entry → Bool
+is_submit r e = submits r e.reply
+
+abbrev pub is_start : ℕ → Entry → Bool
+is_start r e = starts r e.reply
+
+abbrev pub is_finish : ℕ → Entry → Bool
+is_finish r e = finishes r e.call
+
+abbrev pub is_spend : ℕ → Entry → Bool
+is_spend r e = spends r e.call e.reply
+
+-- 1 where the request is there and waits for its start, else 0
+abbrev pub waits : Option Request → ℕ
+waits None = 0
+waits (Some q) = cond (queued_state q.state) 1 0
+
+-- 1 where the request is there and has ended, else 0
+abbrev pub over : Option Request → ℕ
+over None = 0
+over (Some q) = cond (ended_state q.state) 1 0
+
+-- how often the request ends by the call: by its finish, its withdrawal, or the closing that finds it queued
+abbrev pub ends_by : Desk → ℕ → Call → Reply → ℕ
+ends_by d r (Finish n o) reply = cond (n == r) 1 0
+ends_by d r (Cancel n) Withdrawn = cond (n == r) 1 0
+ends_by d r Close reply = waits (slice_get d.requests r)
+ends_by d r _ _ = 0
+
+abbrev pub ends_from : Desk → ℕ → List Entry → ℕ
+ends_from d r [] = 0
+ends_from d r (e ∷ es) = ends_by d r e.call e.reply + ends_from (act d e.caller e.call).0 r es
+
+-- how often the request starts and ends in a history
+abbrev pub starts_in : List Entry → ℕ → ℕ
+starts_in es r = times (is_start r) es
+
+abbrev pub ends_in : ℕ → List Entry → ℕ → ℕ
+ends_in limit es r = ends_from (fresh limit) r es
+
+-- by its own entries, a caller has submitted the request, and has not withdrawn or collected it
+abbrev pub Outstanding : List Entry → ℕ → Type 0
+Outstanding mine r = (1 ≤ times (is_submit r) mine) × (times (is_spend r) mine ≡ 0)
+
+-- by its own entries, the target has started the request, and has not finished it
+abbrev pub Unfinished : List Entry → ℕ → Type 0
+Unfinished mine r = (1 ≤ times (is_start r) mine) × (times (is_finish r) mine ≡ 0)
+
+-- by its own entries, the target has finished what it started
+abbrev pub AllFinished : List Entry → Type 0
+AllFinished mine = (r : ℕ) → Unfinished mine r → ⊥
+
+-- by its own entries, a caller has withdrawn or collected what it submitted
+abbrev pub AllSpent : List Entry → Type 0
+AllSpent mine = (r : ℕ) → Outstanding mine r → ⊥
+
+-- each request has ended, has started at most once and ended exactly once
+abbrev pub Settled : ℕ → List Entry → Type 0
+Settled limit es = (r : ℕ) (q : Request) → slice_get (board_of limit es).requests r ≡ Some q → (ended_state q.state ≡ true) × (starts_in es r ≤ 1) × (ends_in limit es r ≡ 1)
