@@ -5,10 +5,14 @@ mod fault;
 mod mem;
 mod sink;
 mod source;
+mod spawner;
 mod standard;
+#[cfg(test)]
+mod tests;
 
 pub use fault::Failed;
 pub use mem::{MemSink, MemSource, Turn};
 pub use sink::{Sink, write_all};
 pub use source::{Read, Source, read_whole};
+pub use spawner::{Job, NotStarted, Refusing, Spawner, Threads, run_all};
 pub use standard::{StdSink, StdSource};

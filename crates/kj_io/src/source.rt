@@ -28,6 +28,7 @@ pub trait Source {
 }
 
 /// What a reading to the end gave.
+#[derive(Drop)]
 pub enum Read {
     Whole(Bytes),
     /// One octet more than the limit was there.
