@@ -53,7 +53,7 @@ pub trait Store {
 
         // What fits afterwards.
         ensures slots { slots self.new ≡ slots self.old }
-        ensures rest { (more : List RowSeen) (count : ℕ) → IsTrue (room self.old (row (slot_number before) count ∷ more)) → IsTrue (room self.new (rows_after result.0 count more)) }
+        ensures rest { (more : List RowSeen) (count : ℕ) → 0 < count → IsTrue (room self.old (row (slot_number before) count ∷ more)) → IsTrue (room self.new (rows_after result.0 count more)) }
         ensures spots { (spots : List Spot) (key : ℕ) → stands self.old spots → AreBelow key spots → stands self.new (spots ++ spot_placed result.0 key (slot_number before) spots ∷ []) };
 
     /// The node of a live slot.

@@ -1,0 +1,2 @@
+pub mod NodeTable
+pub mod Laws
