@@ -25,7 +25,7 @@ node_of other = 0
 abbrev pub node_named : ℕ → World → ℕ
 node_named name w = node_of (held_at name w.names)
 
--- a node without tree that a new name promises
+-- a node without tree that a new name promises (kj/async.h: a constant promise, `evalLater`, `evalLast`, `newPromiseAndFulfiller`)
 abbrev pub leaf_built : ℕ → Form → World → World
 leaf_built name form w = named name (Promise w.next) (built None form w)
 
@@ -33,19 +33,19 @@ leaf_built name form w = named name (Promise w.next) (built None form w)
 abbrev pub over_built : (ℕ → Form) → ℕ → World → World
 over_built form source w = let t = node_named source w in built (Some t) (form t) (unnamed source w)
 
--- the same, and a new name promises it
+-- the same, and a new name promises it (kj/async.h, `then`)
 abbrev pub over_named : ℕ → (ℕ → Form) → ℕ → World → World
 over_named name form source w = named name (Promise w.next) (over_built form source w)
 
--- the same, and the new node listens
+-- the same, and the new node listens (kj/async.h, `eagerlyEvaluate`)
 abbrev pub over_listening : ℕ → (ℕ → Form) → ℕ → World → World
 over_listening name form source w = listened (node_named source w) (over_named name form source w)
 
--- a Then, and the Chain over it, which listens
+-- a Then, and the Chain over it, which listens (kj/async.h, `then` with a continuation that gives a promise)
 abbrev pub chain_built : ℕ → ℕ → Option ℕ → Option ℕ → World → World
 chain_built name source v e w = listened w.next (named name (Promise (w.next + 1)) (built (Some w.next) (ChainNode w.next) (over_built (λ t. ThenNode v e (Some t)) source w)))
 
--- a hub over the tree of a source; it listens
+-- a hub over the tree of a source; it listens (kj/async.h, `fork`)
 abbrev pub fork_built : ℕ → ℕ → World → World
 fork_built hub source w = let t = node_named source w in listened t (named hub (HubOf w.next) (built None (Hub (Tree t) true []) (unnamed source w)))
 
@@ -54,7 +54,7 @@ abbrev pub with_branch_in : ℕ → ℕ → Option Form → World → World
 with_branch_in n hub (Some (Hub content is_named branches)) w = put hub (Hub content is_named (branches ++ n ∷ [])) w
 with_branch_in n hub other w = w
 
--- a branch, which is its hub's newest
+-- a branch, which is its hub's newest (kj/async.h, `ForkedPromise::addBranch`)
 abbrev pub branch_built : ℕ → ℕ → World → World
 branch_built name hub w = let h = node_named hub w in with_branch_in w.next h (form_at h w.nodes) (leaf_built name (BranchNode h) w)
 
@@ -77,15 +77,15 @@ each_listened (n ∷ ns) w = each_listened ns (listened n w)
 abbrev pub trees_named : List ℕ → World → List ℕ
 trees_named sources w = map (λ source. node_named source w) sources
 
--- two Sides and the Race over them; the Sides listen
+-- two Sides and the Race over them; the Sides listen (kj/async.h, `exclusiveJoin`)
 abbrev pub race_built : ℕ → ℕ → ℕ → World → World
 race_built name left right w = each_listened (trees_named (left ∷ right ∷ []) w) (leaf_built name (RaceNode w.next (w.next + 1) None) (sides_built (left ∷ right ∷ []) w))
 
--- a Side for each source and the join over them; the Sides listen
+-- a Side for each source and the join over them; the Sides listen (kj/async.h, `joinPromises`, `joinPromisesFailFast`)
 abbrev pub join_built : Bool → ℕ → List ℕ → World → World
 join_built fast name sources w = each_listened (trees_named sources w) (leaf_built name (Join fast (numbers_from w.next sources)) (sides_built sources w))
 
--- the cell of this name gets its outcome
+-- the cell of this name gets its outcome (kj/async.h, `PromiseFulfiller`)
 abbrev pub cell_settled : ℕ → Outcome → World → World
 cell_settled cell o w = settled DepthFirst (node_named cell w) o w
 
@@ -98,7 +98,7 @@ abbrev pub added_in : ℕ → ℕ → Option Held → World → World
 added_in group task (Some (Group error tasks empty)) w = named group (Group error (tasks ++ task ∷ []) empty) w
 added_in group task other w = w
 
--- a Task over the tree of a source, at the end of a set; it listens
+-- a Task over the tree of a source, at the end of a set; it listens (kj/async.h, `TaskSet::add`)
 abbrev pub added : ℕ → ℕ → World → World
 added group source w = let t = node_named source w in listened t (added_in group w.next (held_at group w.names) (over_built (λ root. Task (Some root)) source w))
 
@@ -106,7 +106,7 @@ added group source w = let t = node_named source w in listened t (added_in group
 abbrev pub with_detached : ℕ → World → World
 with_detached task w = record w { detached = w.detached ++ task ∷ [] }
 
--- a Task over the tree of a source, in the loop's own set; it listens
+-- a Task over the tree of a source, in the loop's own set; it listens (kj/async.h, `detach`)
 abbrev pub detached_built : ℕ → World → World
 detached_built source w = let t = node_named source w in listened t (with_detached w.next (over_built (λ root. Task (Some root)) source w))
 
@@ -124,7 +124,7 @@ abbrev pub cleared_in : Guard → ℕ → Option Held → State → State
 cleared_in guard group (Some (Group error (task ∷ tasks) empty)) s = silent (now_empty group) (each_freed (free guard) (reverse (task ∷ tasks)) (silent (named group (Group error [] empty)) s))
 cleared_in guard group other s = s
 
--- the tasks of this set go
+-- the tasks of this set go (kj/async.h, `TaskSet`)
 abbrev pub cleared : Guard → ℕ → State → State
 cleared guard group s = cleared_in guard group (held_at group s.world.names) s
 
@@ -133,7 +133,7 @@ abbrev pub empty_built_in : ℕ → ℕ → Option Held → World → World
 empty_built_in name group (Some (Group error (task ∷ tasks) empty)) w = named group (Group error (task ∷ tasks) (Some w.next)) (leaf_built name (Cell None) w)
 empty_built_in name group other w = leaf_built name (Ready void) w
 
--- the promise that a set is empty
+-- the promise that a set is empty (kj/async.h, `TaskSet::onEmpty`)
 abbrev pub empty_built : ℕ → ℕ → World → World
 empty_built name group w = empty_built_in name group (held_at group w.names) w
 
@@ -142,7 +142,7 @@ abbrev pub wrapped_in : ℕ → ℕ → Option Held → World → World
 wrapped_in canceler wrap (Some (Canceler wraps)) w = named canceler (Canceler (wraps ++ wrap ∷ [])) w
 wrapped_in canceler wrap other w = w
 
--- a Wrap over the tree of a source; it listens
+-- a Wrap over the tree of a source; it listens (kj/async.h, `Canceler::wrap`)
 abbrev pub wrap_built : ℕ → ℕ → ℕ → World → World
 wrap_built name canceler source w = listened (node_named source w) (wrapped_in canceler w.next (held_at canceler w.names) (over_named name (λ t. WrapNode canceler (Tree t)) source w))
 
@@ -165,7 +165,7 @@ abbrev pub wraps_of : Option Held → List ℕ
 wraps_of (Some (Canceler wraps)) = wraps
 wraps_of other = []
 
--- the Wraps of a canceler, newest first
+-- the Wraps of a canceler, newest first (kj/async.h, `Canceler::cancel`)
 abbrev pub canceled : Guard → ℕ → State → State
 canceled guard canceler s = each_cancelled guard (reverse (wraps_of (held_at canceler s.world.names))) s
 
