@@ -60,6 +60,19 @@ fn find_cr(bytes: &[u8]) -> Option<usize>
     }
 }
 
+/// The first octets up to an LF, at most so many.
+fn first_line(piece: &[u8], most: usize) -> &[u8]
+    ensures front { (n : ℕ) × (result.now ≡ take n piece.now) }
+    ensures bound { length result.now ≤ most }
+    ensures some { 0 < length piece.now → 0 < most → 0 < length result.now }
+{
+    let front = front_of(piece, most);
+    match front.iter().position(|b| *b == b'\n') {
+        Some(at) => &front[..at + 1],
+        None => front,
+    }
+}
+
 impl Reader {
     ghost use Rattle.http_frames.specs.Steps.{IsSoundReader, IsReadBy, Steps, IsProgress, TookAll};
     ghost use Rattle.http_frames.specs.declared.reader.Stage.TheVariants.{Line, LineEnd, Data, DataCr, DataLf, Trailer, Crowded};
@@ -181,7 +194,7 @@ impl Reader {
         ensures progress { IfOk result IsProgress }
     {
         let before = self.pending.len();
-        let front = front_of(piece, MAX_OCTETS - before);
+        let front = first_line(piece, MAX_OCTETS - before);
         self.pending.extend(front)?;
         let full = self.pending.len() == MAX_OCTETS;
         if !full && !brings_section(self.pending.as_slice(), before) {

@@ -54,3 +54,6 @@ pub enum Framing {
     /// There is no safe framing: the status to answer with.
     Fault(u16),
 }
+
+#[cfg(test)]
+mod tests;
