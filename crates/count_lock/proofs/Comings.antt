@@ -5,14 +5,15 @@ use mathlib.Core.Logic.{dite}
 use native.Mathlib.Decide.{dec_le}
 use lib.ListN.{get_elem?, length-replicate}
 use Rattle.std.proofs.lemmas.Bool.{lt-ltb, le-ltb}
-use Rattle.std.proofs.lemmas.List.Elements.{filter-append, All-replicate, All-nil}
+use Rattle.std.proofs.lemmas.List.Elements.{filter-append, All-replicate, All-nil, All-take}
+use Rattle.std.proofs.Math.Seq.{take-append_seam}
 use Rattle.atomic_table.specs.Table.{State, Me, step, keeps, Allows, Splits, Joins, opening}
 use Rattle.atomic_table.proofs.Lists.{at_set, set_else, at_longer}
 use Rattle.count_lock.specs.declared.view.Stage.{Stage}
 use Rattle.count_lock.specs.declared.view.Stage.TheVariants.{Idle}
 use Rattle.count_lock.specs.declared.view.View.{View}
-use Rattle.count_lock.specs.Rule.{holding, turning, served_now, alive, waiting, load, weight, StartsWith, Spare, Owns, Apart, of, Fits, Home, Ticketed, settled, longer, left_half, right_half, joined, spent_view, first_view, given}
-use Rattle.count_lock.proofs.Moves.{moved, home_stays, weight_set, waiting_set, each_set, pairs_set, Each, Pairs}
+use Rattle.count_lock.specs.Rule.{holding, turning, served_now, alive, waiting, load, weight, StartsWith, Spare, Owns, Apart, of, Fits, Home, Authored, Ticketed, settled, attested, longer, left_half, right_half, joined, spent_view, first_view, given}
+use Rattle.count_lock.proofs.Moves.{moved, stays, home_stays, weight_set, waiting_set, each_set, pairs_set, Each, Pairs}
 
 module _ {A : Type 0} where
   at_end : (l : List A) (a b : A) (j : ℕ) → get_elem? (l ++ a ∷ []) j ≡ some b → (get_elem? l j ≡ some b) ⊎ ((j ≡ length l) × (a ≡ b))
@@ -44,6 +45,10 @@ module _ {E : Type 0} (by : E → ℕ) where
   -- a beginning of a list with no such entry has none
   of_none : (k : ℕ) (log a : List E) → StartsWith log a → of by k log ≡ [] → of by k a ≡ []
   of_none k log a p e = let h : length (of by k a) + length (of by k p.0) ≡ 0 = sym (length-append (of by k a) (of by k p.0)) ∙ ap length (sym (of_append k a p.0) ∙ ap (of by k) (sym p.1) ∙ e) in no_length (of by k a) (omega arith)
+
+  -- a beginning has the authors of the whole
+  beginning : (log a : List E) → StartsWith log a → Authored by log → Authored by a
+  beginning log a p h = subst (Authored by) (take-append_seam a p.0) (All-take (λ (e : E). by e < 2 ^ 32) (length a) (a ++ p.0) (subst (Authored by) p.1 h))
 
   -- what lies between two lists with the same such entries has them too
   of_between : (k : ℕ) (log b a : List E) → StartsWith log b → StartsWith b a → of by k a ≡ of by k log → of by k b ≡ of by k log
@@ -210,3 +215,8 @@ module _ {T E : Type 0} (entries : T → List E) (constant_of : T → ℕ) (by :
       (home_stays entries constant_of by words r'.constant vs r'.log s.homes other w spent_view at' (sym (ap turning sw)) r'.home)
       record { front = (r'.log, refl); told = (r'.log, refl); ticket = λ a. absurd (omega arith); turn = λ a. absurd (omega arith); mine = λ a. absurd (omega arith); spare = λ a. absurd (omega arith); range = λ a. absurd (omega arith); own = λ a. absurd (omega arith) }
       (λ j u n e g. g) (λ j u n e hw hu. absurd (omega arith))
+
+  pub attests : (n id : ℕ) (me : M) → me.0.stage ≡ Idle → (y : ℕ) → Allows R n id me 1 (λ z. z) (λ z. attested by (step n 1 0 0 none) me y)
+  attests n id me st y s r wide at _ = let v : View E = me.0 in let f = r.each id v at in let lives : 1 ≤ alive v.stage = subst (λ (z : Stage). 1 ≤ alive z) (sym st) (le_refl 1) in
+      stays entries constant_of by words s r id me (λ z. attested by (step n 1 0 0 none) me y) at
+      (refl, (f.mine lives).1, (λ k o. of_none by k r.log v.seen f.front (f.spare lives k o)), beginning by r.log v.seen f.front r.authors)

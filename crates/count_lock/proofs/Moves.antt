@@ -180,11 +180,11 @@ module _ {T E : Type 0} (entries : T → List E) (constant_of : T → ℕ) (by :
   same_ticket s r a low high e = let b : ℕ = waiting s.views in let was : r.served + b ≡ r.drawn = r.waits in let c : ℕ = weight s.views in let l : b ≤ c = light s.views in let m : c ≤ 2 ^ 32 = r.weighs in
       sym (one_turn r.served a (2 ^ 64) low (omega arith) e)
 
-  abbrev Goes : St → ℕ → ℕ → M → (ℕ → M → Type 0) → ℕ → Type 0
+  abbrev pub Goes : St → ℕ → ℕ → M → (ℕ → M → Type 0) → ℕ → Type 0
   Goes s k id me then x = (w : View E) × (a : Act (Option T)) × Valid s.homes me.1 a × R (stepped s k x id me.1 w a) × then (get_or s.words k 0) (w, carried_after me.1 a)
 
   -- nothing changes
-  stays : (s : St) (r : R s) (id : ℕ) (me : M) (then : ℕ → M → Type 0) → get_elem? s.views id ≡ some me.0 → then (get_or s.words 1 0) me → Goes s 1 id me then (get_or s.words 1 0)
+  pub stays : (s : St) (r : R s) (id : ℕ) (me : M) (then : ℕ → M → Type 0) → get_elem? s.views id ≡ some me.0 → then (get_or s.words 1 0) me → Goes s 1 id me then (get_or s.words 1 0)
   stays s r id me then at told = let f = r.each id me.0 at in (
     me.0,
     keeps,
@@ -233,7 +233,7 @@ module _ {T E : Type 0} (entries : T → List E) (constant_of : T → ℕ) (by :
       ))
       (λ miss. stays s r id me told at ((λ hit. absurd (miss hit)), λ _. refl))
 
-  of_snoc : (k : ℕ) (es : List E) (e : E) → by e ≢ k → of by k (es ++ e ∷ []) ≡ of by k es
+  pub of_snoc : (k : ℕ) (es : List E) (e : E) → by e ≢ k → of by k (es ++ e ∷ []) ≡ of by k es
   of_snoc k es e ne = filter-append (λ (x : E). by x == k) es (e ∷ []) ∙ subst (λ (b : Bool). of by k es ++ cond b (e ∷ []) [] ≡ of by k es) (sym (ne_eqb (by e) k ne)) (append-nil (of by k es))
 
   pub of_mine : (k : ℕ) (es : List E) (e : E) → by e ≡ k → of by k (es ++ e ∷ []) ≡ of by k es ++ e ∷ []

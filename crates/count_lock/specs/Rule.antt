@@ -175,3 +175,7 @@ module _ {T E : Type 0} where
   abbrev pub settled : (E → ℕ) → Step (Option T) → Seated T E → ℕ → Seated T E → Type 0
   settled by st m r m' = (m'.0 ≡ record m.0 { seen = longer m.0.seen m.0.told; told = [] }) × (m'.1 ≡ m.1)
       × StartsWith (longer m.0.seen m.0.told) m.0.seen × StartsWith (longer m.0.seen m.0.told) m.0.told
+
+  -- what the pass has seen, beside its numbers
+  abbrev pub attested : (E → ℕ) → Step (Option T) → Seated T E → ℕ → Seated T E → Type 0
+  attested by st m r m' = (m' ≡ m) × (of by m.0.number m.0.seen ≡ m.0.mine) × ((n : ℕ) → Spare m.0 n → of by n m.0.seen ≡ []) × Authored by m.0.seen

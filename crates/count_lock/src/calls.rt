@@ -92,6 +92,7 @@ impl<T: Kept> CountLock<T> {
         ensures ok { IfOk result (λ p. IsPassOf self.now p × IsResting p × (constant p ≡ constant pass.old) × (seen p ≡ seen pass.old) × (mine p ≡ []) × (number p ≡ first_spare pass.old)) }
         ensures spare { IfOk result (λ p. (first_spare pass.new ≡ first_spare pass.old + 1) × (end_spare pass.new ≡ first_spare p) × (end_spare p ≡ end_spare pass.old)
             × (first_spare p + (end_spare pass.old - first_spare pass.old - 1) / 2 ≡ end_spare pass.old)) }
+        ensures accounts { IfOk result (λ p. Accounts T.by pass.new (seen pass.new) × Accounts T.by p (seen p)) }
         ensures err { IfErr result (λ _. (first_spare pass.old ≡ end_spare pass.old) × IsSamePass pass.old pass.new) }
     {
         if pass.from == pass.until {
@@ -103,12 +104,15 @@ impl<T: Kept> CountLock<T> {
         let seat = self.table.shared.split_seat::<Halves>(&mut pass.seat);
         pass.from += 1;
         pass.until = from;
-        Ok(Pass {
+        self.attest(&mut pass.seat);
+        let mut made = Pass {
             number,
             from,
             until,
             seat,
-        })
+        };
+        self.attest(&mut made.seat);
+        Ok(made)
     }
 
     /// The pass then has the longer of what both have seen.
@@ -117,10 +121,12 @@ impl<T: Kept> CountLock<T> {
         requires from { IsPassOf self.now from × IsResting from }
         ensures pass { IsSamePass into.old into.new × IsResting into.new × (mine into.new ≡ mine into.old) }
         ensures seen { (seen into.new ≡ longer (seen into.old) (seen from)) × StartsWith (seen into.new) (seen into.old) × StartsWith (seen into.new) (seen from) }
+        ensures accounts { Accounts T.by into.new (seen into.new) }
     {
         let seat = from.into_seat();
         self.table.shared.join_seat::<Both>(&mut into.seat, seat);
         self.settle(&mut into.seat);
+        self.attest(&mut into.seat);
     }
 
     // Draws a ticket and waits until it is served. Then the value is out.
@@ -187,6 +193,7 @@ impl<T: Kept> Held<T> {
         requires room { length (seen pass.old) + 1 < 2 ^ 64 }
         ensures pass { IsSamePass pass.old pass.new × IsResting pass.new }
         ensures seen { (seen pass.new ≡ seen pass.old ++ entry ∷ []) × (mine pass.new ≡ mine pass.old ++ entry ∷ []) }
+        ensures accounts { Accounts T.by pass.old (seen pass.old) → Accounts T.by pass.new (seen pass.new) }
     {
         let Held { value } = self;
         lock.put(&mut pass.seat, value);
@@ -200,6 +207,7 @@ impl<T: Kept> Held<T> {
         requires value { (T.entries self.value ≡ seen pass.old) × (T.constant self.value ≡ constant pass.old) }
         ensures pass { IsSamePass pass.old pass.new × IsResting pass.new }
         ensures seen { (seen pass.new ≡ seen pass.old) × (mine pass.new ≡ mine pass.old) }
+        ensures accounts { Accounts T.by pass.old (seen pass.old) → Accounts T.by pass.new (seen pass.new) }
     {
         let Held { value } = self;
         lock.put(&mut pass.seat, value);

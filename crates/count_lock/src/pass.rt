@@ -1,5 +1,5 @@
 //! A caller's view of one lock.
-ghost use Rattle.std.specs.Prelude.{◌≡◌, ◌≤◌};
+ghost use Rattle.std.specs.Prelude.{◌≡◌, ◌<◌, ◌≤◌};
 
 use crate::kept::Kept;
 use crate::view::View;
@@ -11,7 +11,7 @@ pub struct Pass<T: Kept> {
     pub(crate) from: u64,
     pub(crate) until: u64,
     pub(crate) seat: Seat<Option<T>, View<T::Entry>>,
-    pub ghost ranged: { (from ≤ until) × (until ≤ 4294967296) },
+    pub ghost ranged: { (from ≤ until) × (until ≤ 4294967296) × (number < from) },
     pub ghost number_is: { seat.me.0.number ≡ number },
     pub ghost from_is: { seat.me.0.from ≡ from },
     pub ghost until_is: { seat.me.0.until ≡ until },

@@ -1,5 +1,5 @@
 //! What each step tells. These types are for the proofs alone.
-ghost use Rattle.count_lock.specs.Rule.{drew, looked, noted, passed, laid, settled, left_half, right_half, joined, spent_view};
+ghost use Rattle.count_lock.specs.Rule.{drew, looked, noted, passed, laid, settled, attested, left_half, right_half, joined, spent_view};
 
 use crate::kept::Kept;
 use crate::view::View;
@@ -40,6 +40,12 @@ pub struct Settle;
 
 impl<T: Kept> Play<Option<T>, View<T::Entry>> for Settle {
     ghost then = { settled T.by };
+}
+
+pub struct Attest;
+
+impl<T: Kept> Play<Option<T>, View<T::Entry>> for Attest {
+    ghost then = { attested T.by };
 }
 
 pub struct Halves;

@@ -3,12 +3,12 @@ ghost use Rattle.std.specs.Prelude.{◌≡◌, ◌+◌, ◌^◌, ◌<◌, [], �
 ghost use mathlib.Core.Option.{none};
 ghost use Rattle.atomic_table.specs.Table.{step};
 ghost use Rattle.count_lock.specs.declared.view.Stage.TheVariants.{Idle, Waiting, Turn};
-ghost use Rattle.count_lock.specs.Rule.{drew, looked, noted, passed, laid, settled};
+ghost use Rattle.count_lock.specs.Rule.{drew, looked, noted, passed, laid, settled, attested};
 ghost use Rattle.count_lock.specs.Passes.{IsSameSeat};
 
 use crate::kept::Kept;
 use crate::lock::CountLock;
-use crate::plays::{Draw, LayDown, Look, Note, PassOn, Settle};
+use crate::plays::{Attest, Draw, LayDown, Look, Note, PassOn, Settle};
 use crate::view::View;
 use atomic_table::Seat;
 
@@ -96,5 +96,15 @@ impl<T: Kept> CountLock<T> {
         ensures rule { settled T.by (step 1 1 0 0 none) seat.old.me 0 seat.new.me }
     {
         self.table.shared.load::<Settle>(seat, 1);
+    }
+
+    /// Changes nothing, and tells what the pass has seen beside its numbers.
+    pub(crate) fn attest(&self, seat: &mut Seat<Option<T>, View<T::Entry>>)
+        requires lock { seat.old.table_id ≡ self.now.table.shared.table_id }
+        requires idle { seat.old.me.0.stage ≡ Idle }
+        ensures lock { IsSameSeat seat.old seat.new }
+        ensures rule { attested T.by (step 1 1 0 0 none) seat.old.me 0 seat.new.me }
+    {
+        self.table.shared.load::<Attest>(seat, 1);
     }
 }

@@ -3,3 +3,4 @@ pub mod Moves
 pub mod Steps
 pub mod Weights
 pub mod Laws
+pub mod Answered

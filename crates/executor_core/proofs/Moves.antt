@@ -40,7 +40,7 @@ pub least_is : (p : Request → Bool) (rs : List Request) (n : ℕ) → least p 
 least_is p rs n e = let h = least_at p 0 rs n e in let same : h.0 ≡ n = (let a : n ≡ 0 + h.0 = h.1 in omega arith) in (h.2.0, ap (slice_get rs) (sym same) ∙ h.2.1, h.2.2)
 
 -- the replies of a call to the target, where its request is known
-started : (rs : List Request) (r : ℕ) (q : Request) → slice_get rs r ≡ Some q → start_of rs r ≡ Start r q.step q.words
+pub started : (rs : List Request) (r : ℕ) (q : Request) → slice_get rs r ≡ Some q → start_of rs r ≡ Start r q.step q.words
 started rs r q at = ap (λ (o : Option Request). elim o [ None ↦ Empty | Some q ↦ Start r q.step q.words ]) at
 
 submit_moves : (d : Desk) (k : ℕ) (step : StepId) (words : List ℕ) → (submitted d k step words).0 ≢ d → Move d k (Submit step words) (submitted d k step words).1 (submitted d k step words).0
