@@ -1,0 +1,14 @@
+pub mod Named
+pub mod Walks
+pub mod Alls
+pub mod Gone
+pub mod Told
+pub mod Falls
+pub mod Frees
+pub mod Causes
+pub mod Built
+pub mod Applies
+pub mod Listens
+pub mod Armed
+pub mod Makes
+pub mod Several

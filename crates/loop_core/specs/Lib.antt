@@ -1,0 +1,10 @@
+pub mod Nodes
+pub mod Names
+pub mod Order
+pub mod Walks
+pub mod Engine
+pub mod Kept
+pub mod Falling
+pub mod Seen
+pub mod Applied
+pub mod Full
