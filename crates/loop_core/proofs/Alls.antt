@@ -73,3 +73,10 @@ all_insert P [] zero x p h = (p, tt)
 all_insert P [] (suc i) x p h = (p, tt)
 all_insert P (y ∷ ys) zero x p h = (p, h)
 all_insert P (y ∷ ys) (suc i) x p h = (h.0, all_insert P ys i x p h.1)
+
+pub nil_of : {X : Type 0} (xs : List X) → length xs ≡ 0 → xs ≡ []
+nil_of [] h = refl
+nil_of (x ∷ xs) h = absurd (wrong (length xs) h)
+  where
+    wrong : (n : ℕ) → suc n ≡ 0 → ⊥
+    wrong n h = omega arith

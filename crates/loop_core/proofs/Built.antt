@@ -43,7 +43,7 @@ no_task_more m n form nodes h k =
     list_any-append (λ (node : Node). (node.number == m) && is_event node.form) nodes (node_with n form ∷ [])
     ∙ or_from _ _ k (or_from _ _ h refl)
 
-old_no_task : (m n : ℕ) (form : FormCase) (nodes : List Node) → m < n → is_task m nodes ≡ false → is_task m (nodes ++ node_with n form ∷ []) ≡ false
+pub old_no_task : (m n : ℕ) (form : FormCase) (nodes : List Node) → m < n → is_task m nodes ≡ false → is_task m (nodes ++ node_with n form ∷ []) ≡ false
 old_no_task m n form nodes h k = no_task_more m n form nodes (ap (λ (b : Bool). b && is_event form) (above_other n m h)) k
 
 tree_more : (owner n next : ℕ) (form : FormCase) (nodes : List Node) (tree : Option ℕ) → owner < next → TreeFits nodes owner tree → TreeFits (nodes ++ node_with next form ∷ []) owner tree

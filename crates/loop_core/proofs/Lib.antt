@@ -12,3 +12,6 @@ pub mod Listens
 pub mod Armed
 pub mod Makes
 pub mod Several
+pub mod Runs
+pub mod Cleared
+pub mod Rises

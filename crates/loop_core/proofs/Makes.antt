@@ -15,7 +15,7 @@ use Rattle.loop_core.specs.Full.{no_node_fits}
 use Rattle.loop_core.specs.Kept.{is_task, TreeFits, RootFits, RootsFit, IsKept, HasRoom}
 use Rattle.loop_core.proofs.Alls.{all_filter, filter_less, filter_shorter}
 use Rattle.loop_core.proofs.Named.{found_is, length_with, all_with}
-use Rattle.loop_core.proofs.Built.{node_with, next_fresh, no_task_more, roots_more, built_keeps}
+use Rattle.loop_core.proofs.Built.{old_no_task, node_with, next_fresh, no_task_more, roots_more, built_keeps}
 use Rattle.loop_core.proofs.Applies.{IsBuilt}
 
 -- a node was built, and then names and queue changed
@@ -92,3 +92,8 @@ root_fits n root nodes next [] h e = absurd (wrong root e)
     wrong : (root : ℕ) → ◌≡◌ {A = Option ℕ} None (Some root) → ⊥
     wrong root e = cc
 root_fits n root nodes next (x ∷ xs) h e = root_case (x.name == n) n (RootFits nodes next) x xs root refl h.0 e (root_fits n root nodes next xs h.1)
+
+-- a root stays where a node is built
+pub root_stays : (root next n : ℕ) (form : FormCase) (old nodes : List Node) → nodes ≡ old ++ node_with next form ∷ [] → n ≡ next + 1
+    → RootFits old next root → RootFits nodes n root
+root_stays root next n form old nodes e k h = rw (e, k) (let low = h.0 in (omega arith, old_no_task root next form old low h.1))

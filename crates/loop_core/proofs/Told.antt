@@ -1,7 +1,8 @@
 -- What is told, one thing after another.
-use Rattle.std.proofs.Common.{◌≡◌, ℕ, List, [], ◌∷◌, ◌++◌, Option, None, Some, refl, sym, ap, ◌∙◌, append_assoc}
+use Rattle.std.proofs.Common.{◌≡◌, ℕ, List, [], ◌∷◌, ◌++◌, Option, None, Some, refl, sym, ap, ◌∙◌, append_assoc, subst}
 use Rattle.std.proofs.lemmas.List.{append-nil}
-use Rattle.kj_base.specs.Record.{Item, Tells}
+use Rattle.kj_base.specs.Record.{Item, Run, Free, Tells}
+use Rattle.loop_core.specs.Seen.{Answer, Agrees}
 
 some_same : (l q : List Item) → ◌≡◌ {A = Option (List Item)} (Some l) (Some q) → l ≡ q
 some_same l q e = cc
@@ -17,3 +18,13 @@ tells_then a None (Some m) xs ys h (q, g, k) = absurd (none_some q g)
 pub tells_none : (a : Option (List Item)) → Tells a [] a
 tells_none None = tt
 tells_none (Some l) = (l, refl, sym (append-nil l))
+
+-- answers that agree with two parts agree with each
+pub agrees_append : (answer : Answer) (t xs ys : List Item) → Agrees answer t (xs ++ ys) → Agrees answer t xs × Agrees answer (t ++ xs) ys
+agrees_append answer t [] ys h = (tt, subst (λ l. Agrees answer l ys) (sym (append-nil t)) h)
+agrees_append answer t (Run n step o a ∷ xs) ys h =
+    let r = agrees_append answer (t ++ Run n step o a ∷ []) xs ys h.1 in
+    ((h.0, r.0), subst (λ l. Agrees answer l ys) (append_assoc t (Run n step o a ∷ []) xs) r.1)
+agrees_append answer t (Free n ∷ xs) ys h =
+    let r = agrees_append answer (t ++ Free n ∷ []) xs ys h in
+    (r.0, subst (λ l. Agrees answer l ys) (append_assoc t (Free n ∷ []) xs) r.1)

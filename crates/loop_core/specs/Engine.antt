@@ -38,3 +38,11 @@ SameOthers old new = new ≡ record old { order = new.order; nodes = new.nodes; 
 -- but for the queue, the nodes, the names and the next number all is as it was
 abbrev pub SameRest : Engine → Engine → Type 0
 SameRest old new = new ≡ record old { order = new.order; nodes = new.nodes; names = new.names; next = new.next }
+
+-- but for what steps and frees can change all is as it was
+abbrev pub SameFrames : Engine → Engine → Type 0
+SameFrames old new = new ≡ record old { order = new.order; nodes = new.nodes; names = new.names; next = new.next; stopped = new.stopped; path = new.path }
+
+-- but for what an evaluation can change all is as it was
+abbrev pub SameFixed : Engine → Engine → Type 0
+SameFixed old new = new ≡ record old { order = new.order; nodes = new.nodes; names = new.names; next = new.next; stopped = new.stopped; path = new.path; frames = new.frames }

@@ -62,3 +62,7 @@ pub record IsKept (e : Engine) : Type 0 where
   pub built : AreBuilt e.next e.nodes.items
   pub trees : TreesFit e.nodes.items e.nodes.items
   pub roots : RootsFit e.nodes.items e.next e.names.items
+
+-- a root that was built and is no Task stays one
+abbrev pub KeepsRoots : Engine → Engine → Type 0
+KeepsRoots old new = (root : ℕ) → RootFits old.nodes.items old.next root → RootFits new.nodes.items new.next root

@@ -8,3 +8,4 @@ pub mod Falling
 pub mod Seen
 pub mod Applied
 pub mod Full
+pub mod Gives

@@ -4,7 +4,7 @@ ghost use Rattle.kj_base.specs.Commands.{Later, Then, Detach, command_of, step_o
 ghost use Rattle.loop_core.specs.Order.{events_of};
 ghost use Rattle.loop_core.specs.Nodes.{queue_listened};
 ghost use Rattle.loop_core.specs.Engine.{world_of, SameRest};
-ghost use Rattle.loop_core.specs.Kept.{IsKept, HasRoom};
+ghost use Rattle.loop_core.specs.Kept.{IsKept, HasRoom, KeepsRoots};
 ghost use Rattle.loop_core.specs.Full.{no_node_fits};
 ghost use Rattle.loop_core.specs.Applied.{IsApplied, AreApplied, refusal_in};
 
@@ -31,6 +31,7 @@ fn build(engine: &mut Engine, form: Form)
     ensures nodes { engine.new.nodes.items ≡ engine.old.nodes.items ++ record { number = engine.old.next; form = form } ∷ [] }
     ensures next { engine.new.next ≡ engine.old.next + 1 }
     ensures others { engine.new ≡ record engine.old { nodes = engine.new.nodes; next = engine.new.next } }
+    ensures roots { KeepsRoots engine.old engine.new }
     ensures room { HasRoom engine.new }
 {
     let number = engine.next;
@@ -60,6 +61,7 @@ fn later(engine: &mut Engine, name: Name) -> Result<(), Refused>
     requires running { engine.old.stopped ≡ false }
     ensures applied { IsApplied (Later name.0) (world_of engine.old) (world_of engine.new) (refusal_in result) }
     ensures others { SameRest engine.old engine.new }
+    ensures roots { KeepsRoots engine.old engine.new }
     ensures kept { IsKept engine.new }
 {
     if is_name(&engine.names, name.0) {
@@ -97,6 +99,7 @@ fn then(
     requires running { engine.old.stopped ≡ false }
     ensures applied { IsApplied (Then name.0 source.0 value error) (world_of engine.old) (world_of engine.new) (refusal_in result) }
     ensures others { SameRest engine.old engine.new }
+    ensures roots { KeepsRoots engine.old engine.new }
     ensures kept { IsKept engine.new }
 {
     let Some(root) = root_of(&engine.names, source.0) else {
@@ -121,6 +124,7 @@ fn detach(engine: &mut Engine, source: Name) -> Result<(), Refused>
     requires running { engine.old.stopped ≡ false }
     ensures applied { IsApplied (Detach source.0) (world_of engine.old) (world_of engine.new) (refusal_in result) }
     ensures others { SameRest engine.old engine.new }
+    ensures roots { KeepsRoots engine.old engine.new }
     ensures kept { IsKept engine.new }
 {
     let Some(root) = root_of(&engine.names, source.0) else {
@@ -141,6 +145,7 @@ pub(crate) fn apply_command(engine: &mut Engine, command: &Command) -> Result<()
     requires running { engine.old.stopped ≡ false }
     ensures applied { IsApplied (command_of command.now) (world_of engine.old) (world_of engine.new) (refusal_in result) }
     ensures others { SameRest engine.old engine.new }
+    ensures roots { KeepsRoots engine.old engine.new }
     ensures kept { IsKept engine.new }
 {
     match command {
@@ -161,6 +166,7 @@ pub(crate) fn apply_all(engine: &mut Engine, commands: &[Command]) -> bool
     requires running { engine.old.stopped ≡ false }
     ensures applied { AreApplied (map command_of commands.now) (world_of engine.old) (world_of engine.new) result }
     ensures others { SameRest engine.old engine.new }
+    ensures roots { KeepsRoots engine.old engine.new }
     ensures kept { IsKept engine.new }
 {
     for command in commands {

@@ -7,3 +7,4 @@ mod order;
 mod walk;
 mod engine;
 mod commands;
+mod evaluate;

@@ -8,7 +8,7 @@ use Rattle.loop_core.proofs.Several.{applying_all, applying_on, refused_at, all_
 use Rattle.loop_core.proofs.commands.apply_all.Goals as goal
 
 pub loop-command-init : goal.loop-command-init
-loop-command-init c = record { kept = c.requires.kept; running = c.requires.running; others = refl; so_far = applying_all (map command_of c.args.commands.now) (world_of c.args.engine.now) }
+loop-command-init c = record { kept = c.requires.kept; running = c.requires.running; roots = λ root h. h; others = refl; so_far = applying_all (map command_of c.args.commands.now) (world_of c.args.engine.now) }
 
 pub returns-then-is_err-clause-applied : goal.returns-then-is_err-clause-applied
 returns-then-is_err-clause-applied c =
@@ -24,6 +24,7 @@ loop-command-preserved c =
     record {
       kept = done.kept;
       running = ap (λ (e : Engine). e.stopped) done.others ∙ before.running;
+      roots = λ root h. done.roots root (before.roots root h);
       others = done.others ∙ ap (λ (e : Engine). record e { order = c.apply_command.new.engine.order; nodes = c.apply_command.new.engine.nodes; names = c.apply_command.new.engine.names; next = c.apply_command.new.engine.next }) before.others;
       so_far = applying_on (map command_of c.args.commands.now) _ _ (world_of c.args.engine.now) (world_of c.loop-command.engine) (world_of c.apply_command.new.engine)
         (subst (λ (l : List Command). Applying (map command_of c.args.commands.now) l (world_of c.args.engine.now) (world_of c.loop-command.engine)) (commands_from c.args.commands.now c.loop-command.command-index _ c.loop-command-test.true) before.so_far)

@@ -1,0 +1,102 @@
+-- Actions and runs of steps.
+use Rattle.std.proofs.Common.{◌≡◌, ℕ, List, [], ◌∷◌, ◌++◌, Option, None, Some, Bool, true, false, Result, Ok, Err, refl, sym, ap, ◌∙◌, append_assoc, subst, map}
+use Rattle.std.proofs.lemmas.List.{append-nil}
+use Rattle.kj_base.specs.Record.{Item, Run, Free, Tells}
+use Rattle.kj_base.specs.Commands.{Command, Action}
+use Rattle.kj_base.specs.declared.outcomes.Outcome.{Outcome}
+use Rattle.kj_base.specs.declared.actions.Ending.{Ending}
+use Rattle.kj_base.specs.declared.actions.Ending.TheVariants.{Value as Give, Throw, Promise, Input}
+use Rattle.kj_base.specs.declared.memory.NoMemory.{NoMemory}
+use Rattle.kj_model.specs.Outcomes.{command_refused, promise_given}
+use Rattle.kj_model.specs.World.{World, State, Setting}
+use Rattle.kj_model.specs.Value.{Given, Gave, Took, acted, ended, ended_if, all_applied, step_passed, answered, outcome_given, given_outcome, some_given, with_item, with_stopped}
+use Rattle.loop_core.specs.declared.engine.Engine.{Engine}
+use Rattle.loop_core.specs.Engine.{world_of}
+use Rattle.loop_core.specs.Seen.{Seen, Answer, tabled, Agrees, plain}
+use Rattle.loop_core.specs.Applied.{AreApplied}
+use Rattle.loop_core.specs.Gives.{GaveAs, Gives, Answered, IsActed, ended_outcome, step_run}
+use Rattle.loop_core.proofs.Told.{tells_none}
+
+ended_is : (ending : Ending) (input : Outcome) (s : State) → ended ending false input s ≡ (s, Gave (ended_outcome ending input))
+ended_is (Give words) input s = refl
+ended_is (Throw exception) input s = refl
+ended_is (Promise name) input s = refl
+ended_is Input input s = refl
+
+acted_by : (all : Bool) (ending : Ending) (input : Outcome) → Outcome
+acted_by true ending input = ended_outcome ending input
+acted_by false ending input = command_refused
+
+if_ended : (all : Bool) (ending : Ending) (input : Outcome) (s : State) → ended_if all ending false input s ≡ (s, Gave (acted_by all ending input))
+unfolding acted_by
+if_ended true ending input s = ended_is ending input s
+if_ended false ending input s = refl
+
+acted_is : (action : Action) (input : Outcome) (old new : World) (all : Bool) → AreApplied action.commands old new all → (answer : Answer) (t : List Item) (s : State) → Seen old t s
+    → acted (tabled answer) action false input s ≡ ((all_applied (tabled answer) action.commands s).0, Gave (acted_by all action.ending input))
+acted_is action input old new all a answer t s h =
+    let r = all_applied (tabled answer) action.commands s in
+    ap (λ (b : Bool). ended_if b action.ending false input r.0) (a.reply answer t s h) ∙ if_ended all action.ending input r.0
+
+-- an action, by its commands
+acts : (action : Action) (input : Outcome) (old new : World) (all : Bool) → AreApplied action.commands old new all → IsActed action input old new (acted_by all action.ending input)
+acts action input old new all a = record {
+  given = λ answer t s h. ap (λ (r : State × Given). r.1) (acted_is action input old new all a answer t s h);
+  after = λ answer t s h. subst (λ (r : State × Given). Seen new t r.0) (sym (acted_is action input old new all a answer t s h)) (a.after answer t s h);
+}
+
+-- all its commands were applied
+pub acts_whole : (action : Action) (input : Outcome) (old new : World) → AreApplied action.commands old new true → IsActed action input old new (ended_outcome action.ending input)
+unfolding acted_by
+acts_whole action input old new a = acts action input old new true a
+
+-- one of its commands was refused
+pub acts_refused : (action : Action) (input : Outcome) (old new : World) → AreApplied action.commands old new false → IsActed action input old new command_refused
+unfolding acted_by
+acts_refused action input old new a = acts action input old new false a
+
+ran_as : (n step : ℕ) (input : Outcome) (action : Action) (setting : Setting) (s : State) (o : Outcome) → setting.answer s.past step ≡ Some action
+    → (acted setting action false input (with_item (Run n step input action) s)).1 ≡ Gave o
+    → step_run n (Some step) input setting s ≡ ((acted setting action false input (with_item (Run n step input action) s)).0, Some o)
+ran_as n step input action setting s o h k =
+    let r = acted setting action false input (with_item (Run n step input action) s) in
+    ap (λ (a : Option Action). outcome_given (answered setting a false n step input s)) h
+    ∙ ap (λ (g : Given). (r.0, given_outcome (Some g))) k
+
+-- a step that ran
+pub ran : (n step : ℕ) (input : Outcome) (action : Action) (old new : World) (x y : Option (List Item)) (o : Outcome)
+    → Tells x (Run n step input action ∷ []) y → IsActed action input old new o → Gives (step_run n (Some step) input) old new x y (Ok o)
+ran n step input action old new x y o h a = record {
+  items = Run n step input action ∷ [];
+  told = h;
+  same = λ answer t s seen agrees.
+    let next : Seen old (t ++ Run n step input action ∷ []) (with_item (Run n step input action) s) = record { world = seen.world; past = ap (λ (l : List Item). l ++ Run n step input action ∷ []) seen.past } in
+    let same = ran_as n step input action (tabled answer) s o (ap (λ (l : List Item). answer l step) seen.past ∙ agrees.0) (a.given answer (t ++ Run n step input action ∷ []) (with_item (Run n step input action) s) next) in
+    record {
+      outcome = ap (λ (r : State × Option Outcome). r.1) same;
+      seen = subst (λ (r : State × Option Outcome). Seen new (t ++ Run n step input action ∷ []) r.0) (sym same) (a.after answer (t ++ Run n step input action ∷ []) (with_item (Run n step input action) s) next);
+    };
+}
+
+-- a step that found no memory
+pub not_ran : (n step : ℕ) (input : Outcome) (e : Engine) (x y : Option (List Item)) (none : NoMemory)
+    → Tells x [] y → Gives (step_run n (Some step) input) (world_of e) (world_of (record e { stopped = true })) x y (Err none)
+not_ran n step input e x y none h = record {
+  items = [];
+  told = h;
+  same = (step, λ answer t s seen agrees missing.
+    let same = ap (λ (a : Option Action). outcome_given (answered (tabled answer) a false n step input s)) (ap (λ (l : List Item). answer l step) (seen.past ∙ sym (append-nil t)) ∙ missing) in
+    record {
+      outcome = ap (λ (r : State × Option Outcome). r.1) same;
+      seen = subst (λ (r : State × Option Outcome). Seen (world_of (record e { stopped = true })) (t ++ []) r.0) (sym same)
+        (record { world = ap with_stopped seen.world; past = seen.past ∙ sym (append-nil t) });
+    });
+}
+
+-- no step
+pub passed : (n : ℕ) (input : Outcome) (w : World) (x : Option (List Item)) → Gives (step_run n None input) w w x x (Ok input)
+passed n input w x = record {
+  items = [];
+  told = tells_none x;
+  same = λ answer t s seen agrees. record { outcome = refl; seen = record { world = seen.world; past = seen.past ∙ sym (append-nil t) } };
+}
