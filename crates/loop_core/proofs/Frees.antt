@@ -136,7 +136,7 @@ tasks_without n (node ∷ nodes) h =
 abbrev pub world_with : Engine → Events → List Node → World
 world_with e q nodes = record (world_of e) { queue = q; nodes = nodes_of nodes; detached = tasks_of nodes; spots = map spot_of nodes }
 
-plain_gone : (n : ℕ) (w : World) → plain (gone_world n w) ≡ gone_world n (plain w)
+pub plain_gone : (n : ℕ) (w : World) → plain (gone_world n w) ≡ gone_world n (plain w)
 plain_gone n w =
     ap (λ (l : List Spot). record (plain w) { queue = disarmed n w.queue; nodes = filter (λ (e : Entry). not (e.number == n)) w.nodes; spots = l })
     (map_filter unplaced (λ (x : Spot). not (x.number == n)) (λ (x : Spot). not (x.number == n)) (λ x. refl) w.spots)

@@ -15,3 +15,4 @@ pub mod Several
 pub mod Runs
 pub mod Cleared
 pub mod Rises
+pub mod Tasks

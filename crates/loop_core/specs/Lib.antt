@@ -9,3 +9,4 @@ pub mod Seen
 pub mod Applied
 pub mod Full
 pub mod Gives
+pub mod Turns

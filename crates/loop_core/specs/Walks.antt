@@ -42,3 +42,10 @@ frames_from below (Some frame) = frame ∷ below frame.tree
 abbrev pub frames_found : ℕ → ℕ → List Node → List Frame
 frames_found zero n nodes = []
 frames_found (suc k) n nodes = frames_from (λ m. frames_found k m nodes) (frame_found n nodes)
+
+-- the tree of a Task
+abbrev pub task_in : Option FormCase → Option ℕ
+task_in None = None
+task_in (Some LaterCase) = None
+task_in (Some (ThenCase value error tree)) = None
+task_in (Some (TaskCase tree)) = tree

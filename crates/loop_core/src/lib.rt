@@ -8,3 +8,5 @@ mod walk;
 mod engine;
 mod commands;
 mod evaluate;
+mod fire;
+mod turned;

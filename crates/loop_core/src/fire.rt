@@ -1,0 +1,45 @@
+//! Turns.
+ghost use Rattle.std.specs.Prelude.{◌≡◌, Some, None, false};
+ghost use Rattle.kj_model.specs.Fire.{fire, fire_form, task_valued};
+ghost use Rattle.kj_model.specs.Nodes.{form_at};
+ghost use Rattle.kj_model.specs.Value.{value};
+ghost use Rattle.loop_core.specs.Nodes.{node_found};
+ghost use Rattle.loop_core.specs.Walks.{task_in};
+ghost use Rattle.loop_core.specs.Engine.{world_of, SameFixed};
+ghost use Rattle.loop_core.specs.Kept.{IsKept, RootFits};
+ghost use Rattle.loop_core.specs.Turns.{Does, Turns, valued_task};
+
+use crate::engine::{Engine, drop_node, free_tree};
+use crate::evaluate::evaluate;
+use crate::nodes::{Form, form_of};
+use crate::order::{rewind, take};
+use crate::turned::Turned;
+use kj_base::Steps;
+
+/// The tree of a Task that is there.
+fn task_tree(engine: &Engine, n: u64) -> Option<u64>
+    ensures { result ≡ task_in (node_found n engine.now.nodes.items) }
+{
+    match form_of(&engine.nodes, n) {
+        Some(Form::Task { tree }) => tree,
+        Some(Form::Then { .. }) => None,
+        Some(Form::Later) => None,
+        None => None,
+    }
+}
+
+/// The tree of a Task is evaluated and freed, and then the Task goes.
+fn run_task<S: Steps>(engine: &mut Engine, n: u64, tree: u64, steps: &mut S)
+    requires kept { IsKept engine.old }
+    requires running { engine.old.stopped ≡ false }
+    requires root { RootFits engine.old.nodes.items engine.old.next tree }
+    ensures does { Does (valued_task n tree) (world_of engine.old) (world_of engine.new) (S.told steps.old) (S.told steps.new) engine.new.stopped }
+    ensures others { SameFixed engine.old engine.new }
+    ensures kept { IsKept engine.new }
+{
+    if evaluate(engine, tree, steps).is_err() {
+        return;
+    }
+    free_tree(engine, tree, steps);
+    drop_node(engine, n, steps);
+}
