@@ -16,3 +16,4 @@ pub mod Runs
 pub mod Cleared
 pub mod Rises
 pub mod Tasks
+pub mod Rounds

@@ -10,3 +10,4 @@ pub mod Applied
 pub mod Full
 pub mod Gives
 pub mod Turns
+pub mod Loops

@@ -43,3 +43,48 @@ fn run_task<S: Steps>(engine: &mut Engine, n: u64, tree: u64, steps: &mut S)
     free_tree(engine, tree, steps);
     drop_node(engine, n, steps);
 }
+
+/// What the event of node n does.
+fn fire_node<S: Steps>(engine: &mut Engine, n: u64, steps: &mut S)
+    requires kept { IsKept engine.old }
+    requires running { engine.old.stopped ≡ false }
+    ensures does { Does (λ setting s. fire_form setting n (form_at n s.world.nodes) s) (world_of engine.old) (world_of engine.new) (S.told steps.old) (S.told steps.new) engine.new.stopped }
+    ensures kept { IsKept engine.new }
+{
+    match task_tree(engine, n) {
+        Some(tree) => run_task(engine, n, tree, steps),
+        None => {}
+    }
+}
+
+/// The event of node n fires.
+fn fire<S: Steps>(engine: &mut Engine, n: u64, steps: &mut S)
+    requires kept { IsKept engine.old }
+    requires running { engine.old.stopped ≡ false }
+    ensures does { Does (λ setting. fire setting n) (world_of engine.old) (world_of engine.new) (S.told steps.old) (S.told steps.new) engine.new.stopped }
+    ensures kept { IsKept engine.new }
+{
+    engine.firing = Some(n);
+    fire_node(engine, n, steps);
+    engine.firing = None;
+}
+
+pub(crate) fn turn<S: Steps>(engine: &mut Engine, steps: &mut S) -> Turned
+    requires kept { IsKept engine.old }
+    ensures turns { Turns (world_of engine.old) (world_of engine.new) (S.told steps.old) (S.told steps.new) result }
+    ensures kept { IsKept engine.new }
+{
+    if engine.stopped {
+        return Turned::Stopped;
+    }
+    rewind(&mut engine.order);
+    let Some(n) = take(&mut engine.order) else {
+        return Turned::Idle;
+    };
+    fire(engine, n, steps);
+    rewind(&mut engine.order);
+    if engine.stopped {
+        return Turned::NoMemory;
+    }
+    Turned::Fired
+}

@@ -10,3 +10,7 @@ mod commands;
 mod evaluate;
 mod fire;
 mod turned;
+mod event_loop;
+
+pub use event_loop::Loop;
+pub use turned::Turned;

@@ -1,0 +1,81 @@
+//! The loop as a host sees it.
+ghost use Rattle.std.specs.Prelude.{◌≡◌, ◌≤◌, ◌%◌, IfOk, false};
+ghost use Rattle.kj_base.specs.Commands.{command_of};
+ghost use Rattle.kj_model.specs.World.{new_world};
+ghost use Rattle.loop_core.specs.Applied.{IsApplied, refusal_in};
+ghost use Rattle.loop_core.specs.Turns.{Turns};
+
+use crate::commands::apply_command;
+use crate::engine::Engine;
+use crate::fire::turn;
+use crate::order::Order;
+use crate::turned::Turned;
+use kj_base::{Command, Limits, NoMemory, NodeId, Refused, Steps};
+use std::alloc::Global;
+use std::marker::Model;
+
+/// An event loop, which contracts see as the world of the definitions, without arenas and places.
+#[derive(Drop)]
+pub struct Loop {
+    engine: Engine,
+    freed: Vec<NodeId>,
+}
+
+impl Model for Loop {
+    ghost use Rattle.kj_model.specs.World.{World};
+
+    ghost Value = { World };
+
+    ghost use Rattle.std.specs.Prelude.{◌≤◌, vec_capacity};
+    ghost use Rattle.loop_core.specs.Loops.{shown_world, KeepsLoop};
+
+    ghost view = { shown_world };
+
+    ghost invariant = { KeepsLoop };
+}
+
+impl Loop {
+    /// An empty loop, with room for all that it can ever hold: later calls take no memory.
+    pub fn new(alloc: Global, limits: Limits) -> Result<Loop, NoMemory>
+        requires slots { limits.slots ≤ 4194304 }
+        requires names { limits.names ≤ 1048576 }
+        ensures { IfOk result (λ made. made ≡ new_world limits) }
+    {
+        let slots = limits.slots as usize;
+        Ok(Loop {
+            engine: Engine {
+                order: Order {
+                    events: Vec::with_capacity(alloc, slots)?,
+                    depth: 0,
+                    breadth: 0,
+                },
+                nodes: Vec::with_capacity(alloc, slots)?,
+                names: Vec::with_capacity(alloc, limits.names as usize)?,
+                next: 1,
+                limits,
+                firing: None,
+                stopped: false,
+                path: Vec::with_capacity(alloc, slots + 1)?,
+                frames: Vec::with_capacity(alloc, slots + 1)?,
+            },
+            freed: Vec::with_capacity(alloc, slots)?,
+        })
+    }
+
+    /// A command has its effect, or is refused and all is as before. Its steps are told each node that it frees.
+    pub fn apply<S: Steps>(&mut self, command: Command, _steps: &mut S) -> Result<(), Refused>
+        requires running { self.old.stopped ≡ false }
+        ensures applied { IsApplied (command_of command) self.old self.new (refusal_in result) }
+        ensures told { S.told _steps.new ≡ S.told _steps.old }
+        ensures running { self.new.stopped ≡ false }
+    {
+        apply_command(&mut self.engine, &command)
+    }
+
+    /// The event that waits longest fires (kj/async.h, `EventLoop::turn`).
+    pub fn turn<S: Steps>(&mut self, steps: &mut S) -> Turned
+        ensures { Turns self.old self.new (S.told steps.old) (S.told steps.new) result }
+    {
+        turn(&mut self.engine, steps)
+    }
+}
