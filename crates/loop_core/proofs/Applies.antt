@@ -50,11 +50,11 @@ done_is : (c : Command) (v w : World) (change : World → World)
 done_is c v w change e h k = record {
   reply = λ inside answer t s seen. ap (λ (r : Option Refused). (applied r c s).1) (h inside answer t s seen);
   after = λ inside answer t s seen.
-    let same : (apply (tabled answer) inside c s).0 ≡ silent change s = ap (λ (r : Option Refused). (applied r c s).0) (h inside answer t s seen) ∙ e s in
-    record {
-      world = ap (λ (z : State). plain z.world) same ∙ k s.world seen.world;
-      past = ap (λ (z : State). z.past) same ∙ seen.past;
-    };
+      let same : (apply (tabled answer) inside c s).0 ≡ silent change s = ap (λ (r : Option Refused). (applied r c s).0) (h inside answer t s seen) ∙ e s in
+      record {
+        world = ap (λ (z : State). plain z.world) same ∙ k s.world seen.world;
+        past = ap (λ (z : State). z.past) same ∙ seen.past;
+      };
 }
 
 seen_stopped : (e : Engine) (t : List Item) (s : State) → Seen (world_of e) t s → e.stopped ≡ false → s.world.stopped ≡ false
@@ -198,9 +198,9 @@ later_is_done name old new r h f c b order names =
     done_is (Later name) (world_of old) (world_of new) (leaf_built name LaterNode) (λ s. refl)
     (later_refusal name old false r h (not_full old (length old.names.items + 1) f c))
     (λ u seen.
-      ap (λ (w : World). named name (Promise u.next) w) (plain_built None LaterNode u)
-      ∙ ap (λ (w : World). named name (Promise w.next) (grown LaterNode w)) seen
-      ∙ promised LaterCase old new _ refl b order (later_names name old.next old.names.items new.names.items h names))
+    ap (λ (w : World). named name (Promise u.next) w) (plain_built None LaterNode u)
+    ∙ ap (λ (w : World). named name (Promise w.next) (grown LaterNode w)) seen
+    ∙ promised LaterCase old new _ refl b order (later_names name old.next old.names.items new.names.items h names))
 
 any_new_case : (b : Bool) (n : ℕ) (x y : NamedIn) (ys : List NamedIn) → nat_lt x.name y.name ≡ b → is_name n (y ∷ ys) ≡ true → (is_name n ys ≡ true → is_name n (with_new x ys) ≡ true)
     → is_name n (with_new x (y ∷ ys)) ≡ true
@@ -250,7 +250,7 @@ pub then_is_taken : (name source : ℕ) (v e : Option ℕ) (root : ℕ) (old : E
     → IsApplied (Then name source v e) (world_of old) (world_of old) (Some (Taken name))
 then_is_taken name source v e root old r h n = refused_is (Then name source v e) (world_of old) (Taken name)
     (λ inside answer t s k. then_taken (tabled answer) inside name source v e root s (seen_stopped old t s k r)
-      (seen_name old t s source true k (known source root old.names.items h)) (seen_held old t s source root k h) (seen_name old t s name true k n))
+    (seen_name old t s source true k (known source root old.names.items h)) (seen_held old t s source root k h) (seen_name old t s name true k n))
 
 then_refusal : (name source : ℕ) (v e : Option ℕ) (root : ℕ) (old : Engine) (full : Bool) → old.stopped ≡ false → root_found source old.names.items ≡ Some root → has_name name old.names.items ≡ false
     → full_with (length old.nodes.items) (length (without_name source (with_new (record { name = name; held = CellOf 0 }) (without_name name (names_of old.names.items))))) (world_of old) ≡ full
@@ -281,10 +281,10 @@ then_is_done name source v e root old new r h n f few b order names =
     done_is (Then name source v e) (world_of old) (world_of new) (over_named name (λ t. ThenNode v e (Some t)) source) (λ s. refl)
     (then_refusal name source v e root old false r h n (not_full old _ f (not_above old.limits.names _ (let count = then_count name source old.names.items n (known source root old.names.items h) in omega (arith, count, few)))))
     (λ u seen.
-      ap (λ (x : Option Held). named name (Promise u.next) (plain (built (Some (node_of x)) (ThenNode v e (Some (node_of x))) (unnamed source u)))) (held_in old u source root seen h)
-      ∙ ap (λ (w : World). named name (Promise u.next) w) (plain_built (Some root) form (unnamed source u))
-      ∙ ap (λ (w : World). named name (Promise w.next) (grown form (unnamed source w))) seen
-      ∙ promised (ThenCase v e (Some root)) old new _ refl b order (then_names name source old.next old.names.items new.names.items n names))
+    ap (λ (x : Option Held). named name (Promise u.next) (plain (built (Some (node_of x)) (ThenNode v e (Some (node_of x))) (unnamed source u)))) (held_in old u source root seen h)
+    ∙ ap (λ (w : World). named name (Promise u.next) w) (plain_built (Some root) form (unnamed source u))
+    ∙ ap (λ (w : World). named name (Promise w.next) (grown form (unnamed source w))) seen
+    ∙ promised (ThenCase v e (Some root)) old new _ refl b order (then_names name source old.next old.names.items new.names.items n names))
 
 -- a source that isn't there
 pub detach_is_unknown : (source : ℕ) (old : Engine) → old.stopped ≡ false → root_found source old.names.items ≡ None
@@ -345,10 +345,10 @@ detach_is_done source root old new r h f few b names queue =
     done_is (Detach source) (world_of old) (world_of new) (detached_built source) (λ s. refl)
     (detach_refusal source root old false r h (not_full old _ f (not_above old.limits.names _ (let count = detach_count source old.names.items in omega (arith, count, few)))))
     (λ u seen.
-      ap (λ (x : Option Held). plain (listened (node_of x) (with_detached u.next (built (Some (node_of x)) (TaskNode (Some (node_of x))) (unnamed source u))))) (held_in old u source root seen h)
-      ∙ listened_plain root (with_detached u.next (built (Some root) form (unnamed source u))) w after
-        (task_plain source root u ∙ ap (task_over source root) seen) (sym (map-append shown_node old.nodes.items (node_with old.next (TaskCase (Some root)) ∷ []))) refl
-      ∙ sym (built_world (TaskCase (Some root)) old new b
-        ∙ ap (λ (l : List ℕ). record (grown form (world_of old)) { queue = events_of new.order; names = names_of new.names.items; detached = l }) (task_more old.nodes.items old.next root)
-        ∙ ap (λ (l : List NamedIn). record w { queue = events_of new.order; names = l }) (ap names_of names ∙ names_without source old.names.items)
-        ∙ ap (λ (q : Events). record w { queue = q }) (queue ∙ ap (λ (l : List Node). queue_listened (old.limits.slots + 1) root l (events_of old.order)) b.nodes)))
+    ap (λ (x : Option Held). plain (listened (node_of x) (with_detached u.next (built (Some (node_of x)) (TaskNode (Some (node_of x))) (unnamed source u))))) (held_in old u source root seen h)
+    ∙ listened_plain root (with_detached u.next (built (Some root) form (unnamed source u))) w after
+    (task_plain source root u ∙ ap (task_over source root) seen) (sym (map-append shown_node old.nodes.items (node_with old.next (TaskCase (Some root)) ∷ []))) refl
+    ∙ sym (built_world (TaskCase (Some root)) old new b
+    ∙ ap (λ (l : List ℕ). record (grown form (world_of old)) { queue = events_of new.order; names = names_of new.names.items; detached = l }) (task_more old.nodes.items old.next root)
+    ∙ ap (λ (l : List NamedIn). record w { queue = events_of new.order; names = l }) (ap names_of names ∙ names_without source old.names.items)
+    ∙ ap (λ (q : Events). record w { queue = q }) (queue ∙ ap (λ (l : List Node). queue_listened (old.limits.slots + 1) root l (events_of old.order)) b.nodes)))

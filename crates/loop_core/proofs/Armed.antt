@@ -105,5 +105,5 @@ member_live q nodes (x ∷ xs) h k = member_case (nat_eq q x) q x nodes xs refl 
 pub few_events : (e : Engine) → IsKept e → length e.order.events.items ≤ length e.nodes.items
 few_events e k =
     let few = length-le_from_is_member nat_eq_equiv e.order.events.items (map (λ (node : Node). node.number) e.nodes.items) k.queue.apart
-          (λ q h. live_number q e.nodes.items (member_live q e.nodes.items e.order.events.items k.live h)) in
+    (λ q h. live_number q e.nodes.items (member_live q e.nodes.items e.order.events.items k.live h)) in
     omega (arith, few, length-map e.nodes.items (λ (node : Node). node.number))

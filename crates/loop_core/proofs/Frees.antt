@@ -188,7 +188,7 @@ seen_freed guard root a b x y t s kept i f h =
     let k = a.limits.slots + 1 in
     let ns = freed_order k root a.nodes.items in
     let same : free guard root s ≡ states_gone ns s =
-        ap (λ (w : World). free_to guard (w.limits.slots + 1) root s) h.world ∙ free_is guard k root a.nodes.items s (ap (λ (w : World). w.nodes) h.world) in
+    ap (λ (w : World). free_to guard (w.limits.slots + 1) root s) h.world ∙ free_is guard k root a.nodes.items s (ap (λ (w : World). w.nodes) h.world) in
     let r = seen_all_gone a ns (events_of a.order) a.nodes.items t s (order_tasks a.nodes.items k root kept.trees i) h in
     record {
       world = ap (λ (z : State). plain z.world) same ∙ r.world ∙ falls_world ns a b x y f;

@@ -17,3 +17,4 @@ pub mod Cleared
 pub mod Rises
 pub mod Tasks
 pub mod Rounds
+pub mod Fresh

@@ -36,6 +36,7 @@ fits_parts n slots next h =
   where
     within : (n slots : ℕ) → not (nat_le (n + 1) slots) ≡ false → n < slots
     within n slots h = grind (arith, nat_tests)
+
     low : (next : ℕ) → nat_lt (2 ^ 63) next ≡ false → next ≤ 2 ^ 63
     low next h = grind (arith, nat_tests)
 

@@ -72,11 +72,14 @@ rise_same frame o a b c d x y items (Ok r) k i f n nodes others h = λ answer t 
     let ns = freed_order (a.limits.slots + 1) frame.tree a.nodes.items in
     moved d t (map Free ns) items _ (Some r)
     (h answer (t ++ map Free ns) (risen (tabled answer) frame s) (risen_seen frame a b c x y answer t s k i f n nodes others seen) (frees_agree answer t ns items agrees))
-rise_same frame o a b c d x y items (Err e) k i f n nodes others h = (h.0, λ answer t s seen agrees none.
-    let ns = freed_order (a.limits.slots + 1) frame.tree a.nodes.items in
-    moved d t (map Free ns) items _ None
-    (h.1 answer (t ++ map Free ns) (risen (tabled answer) frame s) (risen_seen frame a b c x y answer t s k i f n nodes others seen) (frees_agree answer t ns items agrees)
-      (subst (λ (l : List Item). answer l h.0 ≡ None) (sym (append_assoc t (map Free ns) items)) none)))
+rise_same frame o a b c d x y items (Err e) k i f n nodes others h = (
+  h.0,
+  λ answer t s seen agrees none.
+      let ns = freed_order (a.limits.slots + 1) frame.tree a.nodes.items in
+      moved d t (map Free ns) items _ None
+      (h.1 answer (t ++ map Free ns) (risen (tabled answer) frame s) (risen_seen frame a b c x y answer t s k i f n nodes others seen) (frees_agree answer t ns items agrees)
+      (subst (λ (l : List Item). answer l h.0 ≡ None) (sym (append_assoc t (map Free ns) items)) none)),
+)
 
 -- the tree of a continuation goes, then its link, and then its step runs
 pub rise_gives : (frame : Frame) (o : Outcome) (a b c : Engine) (d : World) (x y z : Option (List Item)) (result : Result Outcome NoMemory)
@@ -151,17 +154,17 @@ rising_on all left frame xs w v u x y z o r p top g = record {
   told = tells_then x y z p.items g.items p.told g.told;
   to = λ answer t s h k. let a = agrees_append answer t p.items g.items k in (rise (tabled answer) frame (p.to answer t s h a.0, Some o)).0;
   seen = λ answer t s h k.
-    let a = agrees_append answer t p.items g.items k in
-    let q = g.same answer (t ++ p.items) (p.to answer t s h a.0) (p.seen answer t s h a.0) a.1 in
-    record { world = q.seen.world; past = q.seen.past ∙ append_assoc t p.items g.items };
+      let a = agrees_append answer t p.items g.items k in
+      let q = g.same answer (t ++ p.items) (p.to answer t s h a.0) (p.seen answer t s h a.0) a.1 in
+      record { world = q.seen.world; past = q.seen.past ∙ append_assoc t p.items g.items };
   same = λ answer t s h k.
-    let a = agrees_append answer t p.items g.items k in
-    let s' = p.to answer t s h a.0 in
-    let q = g.same answer (t ++ p.items) s' (p.seen answer t s h a.0) a.1 in
-    p.same answer t s h a.0
-    ∙ ap (λ (l : List Frame). rises (tabled answer) (reverse l) (s', Some o)) top
-    ∙ ap (λ (l : List Frame). rises (tabled answer) l (s', Some o)) (reverse-append left (frame ∷ []))
-    ∙ ap (λ (m : Option Outcome). rises (tabled answer) (reverse left) ((rise (tabled answer) frame (s', Some o)).0, m)) q.outcome;
+      let a = agrees_append answer t p.items g.items k in
+      let s' = p.to answer t s h a.0 in
+      let q = g.same answer (t ++ p.items) s' (p.seen answer t s h a.0) a.1 in
+      p.same answer t s h a.0
+      ∙ ap (λ (l : List Frame). rises (tabled answer) (reverse l) (s', Some o)) top
+      ∙ ap (λ (l : List Frame). rises (tabled answer) l (s', Some o)) (reverse-append left (frame ∷ []))
+      ∙ ap (λ (m : Option Outcome). rises (tabled answer) (reverse left) ((rise (tabled answer) frame (s', Some o)).0, m)) q.outcome;
 }
 
 pub rising_to : (all left rest : List Frame) (frame : Frame) (xs : List Frame) (w v u : World) (x y z : Option (List Item)) (o r : Outcome) → Rising all xs w v x y o → xs ≡ left ++ frame ∷ []
@@ -175,21 +178,24 @@ pub rising_stops : (root : ℕ) (a : Engine) (left xs : List Frame) (frame : Fra
 rising_stops root a left xs frame v u x y z o e p top g = record {
   items = p.items ++ g.items;
   told = tells_then x y z p.items g.items p.told g.told;
-  same = (g.same.0, λ answer t s h k none.
-    let m = agrees_append answer t p.items g.items k in
-    let s' = p.to answer t s h m.0 in
-    let q = g.same.1 answer (t ++ p.items) s' (p.seen answer t s h m.0) m.1 (subst (λ (l : List Item). answer l g.same.0 ≡ None) (sym (append_assoc t p.items g.items)) none) in
-    let same = value_at (tabled answer) root a t s h
+  same = (
+    g.same.0,
+    λ answer t s h k none.
+        let m = agrees_append answer t p.items g.items k in
+        let s' = p.to answer t s h m.0 in
+        let q = g.same.1 answer (t ++ p.items) s' (p.seen answer t s h m.0) m.1 (subst (λ (l : List Item). answer l g.same.0 ≡ None) (sym (append_assoc t p.items g.items)) none) in
+        let same = value_at (tabled answer) root a t s h
         ∙ p.same answer t s h m.0
         ∙ ap (λ (l : List Frame). rises (tabled answer) (reverse l) (s', Some o)) top
         ∙ ap (λ (l : List Frame). rises (tabled answer) l (s', Some o)) (reverse-append left (frame ∷ []))
         ∙ ap (λ (n : Option Outcome). rises (tabled answer) (reverse left) ((rise (tabled answer) frame (s', Some o)).0, n)) q.outcome
         ∙ rises_none (tabled answer) (reverse left) (rise (tabled answer) frame (s', Some o)).0 in
-    record {
-      outcome = ap (λ (r : State × Option Outcome). r.1) same;
-      seen = subst (λ (r : State × Option Outcome). Seen u (t ++ (p.items ++ g.items)) r.0) (sym same)
-        (record { world = q.seen.world; past = q.seen.past ∙ append_assoc t p.items g.items });
-    });
+        record {
+          outcome = ap (λ (r : State × Option Outcome). r.1) same;
+          seen = subst (λ (r : State × Option Outcome). Seen u (t ++ (p.items ++ g.items)) r.0) (sym same)
+              (record { world = q.seen.world; past = q.seen.past ∙ append_assoc t p.items g.items });
+        },
+  );
 }
 
 -- all were closed
@@ -199,11 +205,11 @@ rising_ends root a v x y o p = record {
   items = p.items;
   told = p.told;
   same = λ answer t s h k.
-    let same = value_at (tabled answer) root a t s h ∙ p.same answer t s h k in
-    record {
-      outcome = ap (λ (r : State × Option Outcome). r.1) same;
-      seen = subst (λ (r : State × Option Outcome). Seen v (t ++ p.items) r.0) (sym same) (p.seen answer t s h k);
-    };
+      let same = value_at (tabled answer) root a t s h ∙ p.same answer t s h k in
+      record {
+        outcome = ap (λ (r : State × Option Outcome). r.1) same;
+        seen = subst (λ (r : State × Option Outcome). Seen v (t ++ p.items) r.0) (sym same) (p.seen answer t s h k);
+      };
 }
 
 pub rising_over : (root : ℕ) (a : Engine) (left : List Frame) (v : World) (x y : Option (List Item)) (o : Outcome)

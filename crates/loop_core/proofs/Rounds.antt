@@ -56,8 +56,8 @@ task_fires n tree a v x y lacked h d = record {
   lacks = d.lacks;
   told = d.told;
   same = λ answer t s seen agrees none.
-    let same = ap (λ (f : Option Form). fire_form (tabled answer) n f s) (found_form a n t s seen) ∙ task_case (tabled answer) n tree (node_found n a.nodes.items) s h in
-    subst (λ (r : State). Seen v (t ++ d.items) r) (sym same) (d.same answer t s seen agrees none);
+      let same = ap (λ (f : Option Form). fire_form (tabled answer) n f s) (found_form a n t s seen) ∙ task_case (tabled answer) n tree (node_found n a.nodes.items) s h in
+      subst (λ (r : State). Seen v (t ++ d.items) r) (sym same) (d.same answer t s seen agrees none);
 }
 
 none_case : (setting : Setting) (n : ℕ) (form : Option FormCase) (s : State) → task_in form ≡ None → fire_form setting n (shown_found form) s ≡ s
@@ -79,8 +79,8 @@ none_fires n a x r h = record {
   lacks = sym r;
   told = tells_none x;
   same = λ answer t s seen agrees none.
-    let same = ap (λ (f : Option Form). fire_form (tabled answer) n f s) (found_form a n t s seen) ∙ none_case (tabled answer) n (node_found n a.nodes.items) s h in
-    subst (λ (r : State). Seen (world_of a) (t ++ []) r) (sym same) (record { world = seen.world; past = seen.past ∙ sym (append-nil t) });
+      let same = ap (λ (f : Option Form). fire_form (tabled answer) n f s) (found_form a n t s seen) ∙ none_case (tabled answer) n (node_found n a.nodes.items) s h in
+      subst (λ (r : State). Seen (world_of a) (t ++ []) r) (sym same) (record { world = seen.world; past = seen.past ∙ sym (append-nil t) });
 }
 
 -- a change of the world before, and one after
@@ -93,8 +93,8 @@ does_within pre post f w v x y lacked h k d = record {
   lacks = d.lacks;
   told = d.told;
   same = λ answer t s seen agrees none.
-    let r = d.same answer t (silent pre s) (record { world = h s.world ∙ ap pre seen.world; past = seen.past }) agrees none in
-    record { world = k (f (tabled answer) (silent pre s)).world ∙ ap post r.world; past = r.past };
+      let r = d.same answer t (silent pre s) (record { world = h s.world ∙ ap pre seen.world; past = seen.past }) agrees none in
+      record { world = k (f (tabled answer) (silent pre s)).world ∙ ap post r.world; past = r.past };
 }
 
 -- an event fires
@@ -169,8 +169,8 @@ turn_stopped a x h = record {
   told = tells_none x;
   reply = λ answer t s seen agrees none. ap (λ (b : Bool). (turn_unless b (tabled answer) s).1) (ap (λ (w : World). w.stopped) seen.world ∙ h);
   after_it = λ answer t s seen agrees none.
-    let same = ap (λ (b : Bool). turn_unless b (tabled answer) s) (ap (λ (w : World). w.stopped) seen.world ∙ h) in
-    subst (λ (r : State × Turned). Seen (world_of a) (t ++ []) r.0) (sym same) (record { world = seen.world; past = seen.past ∙ sym (append-nil t) });
+      let same = ap (λ (b : Bool). turn_unless b (tabled answer) s) (ap (λ (w : World). w.stopped) seen.world ∙ h) in
+      subst (λ (r : State × Turned). Seen (world_of a) (t ++ []) r.0) (sym same) (record { world = seen.world; past = seen.past ∙ sym (append-nil t) });
 }
 
 -- no event waits
@@ -178,8 +178,8 @@ pub turn_idle : (a : Engine) (o : Order) (x : Option (List Item)) → a.stopped 
     → Turns (world_of a) (world_of (record a { order = o })) x x IdleCase
 turn_idle a o x h none e =
     let idle = λ (answer : Answer) (t : List Item) (s : State) (seen : Seen (world_of a) t s).
-        turn_running (tabled answer) s (ap (λ (w : World). w.stopped) seen.world ∙ h)
-        ∙ ap (λ (m : Option ℕ). turn_at (tabled answer) m (silent rewound_world s)) (ap (λ (w : World). head_of w.queue) seen.world ∙ none) in
+    turn_running (tabled answer) s (ap (λ (w : World). w.stopped) seen.world ∙ h)
+    ∙ ap (λ (m : Option ℕ). turn_at (tabled answer) m (silent rewound_world s)) (ap (λ (w : World). head_of w.queue) seen.world ∙ none) in
     let queue : rewound (events_of a.order) ≡ events_of o = sym (e ∙ none_taken a.order.events.items 0 a.order.breadth none) in
     record {
       items = [];
@@ -188,8 +188,8 @@ turn_idle a o x h none e =
       told = tells_none x;
       reply = λ answer t s seen agrees m. ap (λ (r : State × Turned). r.1) (idle answer t s seen);
       after_it = λ answer t s seen agrees m.
-        subst (λ (r : State × Turned). Seen (world_of (record a { order = o })) (t ++ []) r.0) (sym (idle answer t s seen))
-        (record { world = ap rewound_world seen.world ∙ ap (λ (q : Events). record (world_of a) { queue = q }) queue; past = seen.past ∙ sym (append-nil t) });
+          subst (λ (r : State × Turned). Seen (world_of (record a { order = o })) (t ++ []) r.0) (sym (idle answer t s seen))
+          (record { world = ap rewound_world seen.world ∙ ap (λ (q : Events). record (world_of a) { queue = q }) queue; past = seen.past ∙ sym (append-nil t) });
     }
 
 begun : World → World
@@ -211,7 +211,7 @@ turn_does n a c o p x y lacked e k d =
     let end : rewound_world (world_of c) ≡ world_of (record c { order = p }) = ap (λ (q : Events). record (world_of c) { queue = q }) (sym k) in
     subst (λ (w : World). Does (λ setting s. silent rewound_world (fire setting n (silent begun s))) (world_of a) w x y lacked) end
     (does_within begun rewound_world (λ setting. fire setting n) (world_of a) (world_of c) x y lacked (λ u. refl) (λ u. refl)
-      (subst (λ (w : World). Does (λ setting. fire setting n) w (world_of c) x y lacked) start d))
+    (subst (λ (w : World). Does (λ setting. fire setting n) w (world_of c) x y lacked) start d))
 
 -- an event fired
 pub turn_fires : (n : ℕ) (a c : Engine) (o p : Order) (x y : Option (List Item)) (turned : TurnedCase) → a.stopped ≡ false → head_of (events_of a.order) ≡ Some n
@@ -227,11 +227,11 @@ turn_fires n a c o p x y turned h first e k d l m =
       lacks = r.lacks ∙ l;
       told = r.told;
       reply = λ answer t s seen agrees none.
-        let after = r.same answer t s seen agrees none in
-        ap (λ (q : State × Turned). q.1) (turn_goes (tabled answer) n a t s seen h first)
-        ∙ ap turned_by (ap (λ (w : World). w.stopped) after.world ∙ l) ∙ m;
+          let after = r.same answer t s seen agrees none in
+          ap (λ (q : State × Turned). q.1) (turn_goes (tabled answer) n a t s seen h first)
+          ∙ ap turned_by (ap (λ (w : World). w.stopped) after.world ∙ l) ∙ m;
       after_it = λ answer t s seen agrees none.
-        subst (λ (q : State × Turned). Seen (world_of (record c { order = p })) (t ++ r.items) q.0) (sym (turn_goes (tabled answer) n a t s seen h first)) (r.same answer t s seen agrees none);
+          subst (λ (q : State × Turned). Seen (world_of (record c { order = p })) (t ++ r.items) q.0) (sym (turn_goes (tabled answer) n a t s seen h first)) (r.same answer t s seen agrees none);
     }
 
 built_case : (b : Bool) (n next : ℕ) (node : Node) (rest : Option FormCase) (form : FormCase) → (node.number == n) ≡ b → node.number < next → (if b then Some node.form else rest) ≡ Some form

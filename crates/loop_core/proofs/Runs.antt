@@ -70,12 +70,12 @@ ran n step input action old new x y o h a = record {
   items = Run n step input action ∷ [];
   told = h;
   same = λ answer t s seen agrees.
-    let next : Seen old (t ++ Run n step input action ∷ []) (with_item (Run n step input action) s) = record { world = seen.world; past = ap (λ (l : List Item). l ++ Run n step input action ∷ []) seen.past } in
-    let same = ran_as n step input action (tabled answer) s o (ap (λ (l : List Item). answer l step) seen.past ∙ agrees.0) (a.given answer (t ++ Run n step input action ∷ []) (with_item (Run n step input action) s) next) in
-    record {
-      outcome = ap (λ (r : State × Option Outcome). r.1) same;
-      seen = subst (λ (r : State × Option Outcome). Seen new (t ++ Run n step input action ∷ []) r.0) (sym same) (a.after answer (t ++ Run n step input action ∷ []) (with_item (Run n step input action) s) next);
-    };
+      let next : Seen old (t ++ Run n step input action ∷ []) (with_item (Run n step input action) s) = record { world = seen.world; past = ap (λ (l : List Item). l ++ Run n step input action ∷ []) seen.past } in
+      let same = ran_as n step input action (tabled answer) s o (ap (λ (l : List Item). answer l step) seen.past ∙ agrees.0) (a.given answer (t ++ Run n step input action ∷ []) (with_item (Run n step input action) s) next) in
+      record {
+        outcome = ap (λ (r : State × Option Outcome). r.1) same;
+        seen = subst (λ (r : State × Option Outcome). Seen new (t ++ Run n step input action ∷ []) r.0) (sym same) (a.after answer (t ++ Run n step input action ∷ []) (with_item (Run n step input action) s) next);
+      };
 }
 
 -- a step that found no memory
@@ -84,13 +84,16 @@ pub not_ran : (n step : ℕ) (input : Outcome) (e : Engine) (x y : Option (List 
 not_ran n step input e x y none h = record {
   items = [];
   told = h;
-  same = (step, λ answer t s seen agrees missing.
-    let same = ap (λ (a : Option Action). outcome_given (answered (tabled answer) a false n step input s)) (ap (λ (l : List Item). answer l step) (seen.past ∙ sym (append-nil t)) ∙ missing) in
-    record {
-      outcome = ap (λ (r : State × Option Outcome). r.1) same;
-      seen = subst (λ (r : State × Option Outcome). Seen (world_of (record e { stopped = true })) (t ++ []) r.0) (sym same)
-        (record { world = ap with_stopped seen.world; past = seen.past ∙ sym (append-nil t) });
-    });
+  same = (
+    step,
+    λ answer t s seen agrees missing.
+        let same = ap (λ (a : Option Action). outcome_given (answered (tabled answer) a false n step input s)) (ap (λ (l : List Item). answer l step) (seen.past ∙ sym (append-nil t)) ∙ missing) in
+        record {
+          outcome = ap (λ (r : State × Option Outcome). r.1) same;
+          seen = subst (λ (r : State × Option Outcome). Seen (world_of (record e { stopped = true })) (t ++ []) r.0) (sym same)
+              (record { world = ap with_stopped seen.world; past = seen.past ∙ sym (append-nil t) });
+        },
+  );
 }
 
 -- no step

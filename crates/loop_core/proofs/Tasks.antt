@@ -81,9 +81,9 @@ unfolding left
 left_world n b c nodes queue others =
     let p = λ (x : Node). not (x.number == n) in
     let entries : without n (with_form n (TaskNode None) (nodes_of b.nodes.items)) ≡ nodes_of c.nodes.items =
-        without_formed n (TaskNode None) (nodes_of b.nodes.items) ∙ sym (map_filter shown_node p (λ (x : Entry). not (x.number == n)) (λ x. refl) b.nodes.items) ∙ ap nodes_of (sym nodes) in
+    without_formed n (TaskNode None) (nodes_of b.nodes.items) ∙ sym (map_filter shown_node p (λ (x : Entry). not (x.number == n)) (λ x. refl) b.nodes.items) ∙ ap nodes_of (sym nodes) in
     let places : filter (λ (x : Spot). not (x.number == n)) (map spot_of b.nodes.items) ≡ map spot_of c.nodes.items =
-        sym (map_filter spot_of p (λ (x : Spot). not (x.number == n)) (λ x. refl) b.nodes.items) ∙ ap (map spot_of) (sym nodes) in
+    sym (map_filter spot_of p (λ (x : Spot). not (x.number == n)) (λ x. refl) b.nodes.items) ∙ ap (map spot_of) (sym nodes) in
     let tasks : dropped n (tasks_of b.nodes.items) ≡ tasks_of c.nodes.items = sym (tasks_dropped n b.nodes.items) ∙ ap tasks_of (sym nodes) in
     let none : dropped n (n ∷ []) ≡ [] = ap (λ (b : Bool). cond (not b) (n ∷ []) []) (same_number n) in
     let w = world_of b in
@@ -114,8 +114,8 @@ task_stops n tree a b x y e h g = record {
   lacks = sym h;
   told = g.told;
   same = λ answer t s seen agrees none.
-    let r = g.same.1 answer t s seen agrees none in
-    subst (λ (o : Option Outcome). Seen (world_of b) (t ++ g.items) (task_valued (tabled answer) n tree o (value (tabled answer) tree s).0)) (sym r.outcome) r.seen;
+      let r = g.same.1 answer t s seen agrees none in
+      subst (λ (o : Option Outcome). Seen (world_of b) (t ++ g.items) (task_valued (tabled answer) n tree o (value (tabled answer) tree s).0)) (sym r.outcome) r.seen;
 }
 
 -- the tree gave its outcome, was freed, and the Task went
@@ -132,14 +132,14 @@ task_ends n tree a b c d x y z w o h g kept root f nodes queue others told =
       lacks = sym h;
       told = tells_then x y w g.items (map Free ns ++ Free n ∷ []) g.told (tells_then y z w (map Free ns) (Free n ∷ []) f.told told);
       same = λ answer t s seen agrees none.
-        let m = agrees_append answer t g.items (map Free ns ++ Free n ∷ []) agrees in
-        let r = g.same answer t s seen m.0 in
-        let s' = (value (tabled answer) tree s).0 in
-        let after = seen_freed (usual s'.world) tree b c y z (t ++ g.items) s' kept root.1 f r.seen in
-        let last = task_seen (tabled answer) n o c d ((t ++ g.items) ++ map Free ns) (freed tree s') nodes queue others after in
-        let moved : Seen (world_of d) (t ++ (g.items ++ (map Free ns ++ Free n ∷ []))) (task_valued (tabled answer) n tree (Some o) s') =
-            record { world = last.world; past = last.past ∙ append_assoc (t ++ g.items) (map Free ns) (Free n ∷ []) ∙ append_assoc t g.items (map Free ns ++ Free n ∷ []) } in
-        subst (λ (p : Option Outcome). Seen (world_of d) (t ++ (g.items ++ (map Free ns ++ Free n ∷ []))) (task_valued (tabled answer) n tree p s')) (sym r.outcome) moved;
+          let m = agrees_append answer t g.items (map Free ns ++ Free n ∷ []) agrees in
+          let r = g.same answer t s seen m.0 in
+          let s' = (value (tabled answer) tree s).0 in
+          let after = seen_freed (usual s'.world) tree b c y z (t ++ g.items) s' kept root.1 f r.seen in
+          let last = task_seen (tabled answer) n o c d ((t ++ g.items) ++ map Free ns) (freed tree s') nodes queue others after in
+          let moved : Seen (world_of d) (t ++ (g.items ++ (map Free ns ++ Free n ∷ []))) (task_valued (tabled answer) n tree (Some o) s') =
+          record { world = last.world; past = last.past ∙ append_assoc (t ++ g.items) (map Free ns) (Free n ∷ []) ∙ append_assoc t g.items (map Free ns ++ Free n ∷ []) } in
+          subst (λ (p : Option Outcome). Seen (world_of d) (t ++ (g.items ++ (map Free ns ++ Free n ∷ []))) (task_valued (tabled answer) n tree p s')) (sym r.outcome) moved;
     }
 
 -- an outcome, or want of memory

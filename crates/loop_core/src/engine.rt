@@ -10,9 +10,8 @@ ghost use Rattle.loop_core.specs.Kept.{IsKept};
 ghost use Rattle.loop_core.specs.Falling.{Falls};
 
 use crate::names::Named;
-use crate::nodes::Node;
+use crate::nodes::{Node, remove_node};
 use crate::order::{Order, disarm};
-use crate::nodes::remove_node;
 use crate::walk::{Frame, go_down};
 use kj_base::{Limits, NodeId, Steps};
 

@@ -37,8 +37,11 @@ impl Model for Loop {
 impl Loop {
     /// An empty loop, with room for all that it can ever hold: later calls take no memory.
     pub fn new(alloc: Global, limits: Limits) -> Result<Loop, NoMemory>
-        requires slots { limits.slots ≤ 4194304 }
-        requires names { limits.names ≤ 1048576 }
+        requires least_slots { 8 ≤ limits.slots }
+        requires most_slots { limits.slots ≤ 4194304 }
+        requires eights { limits.slots % 8 ≡ 0 }
+        requires least_names { 1 ≤ limits.names }
+        requires most_names { limits.names ≤ 1048576 }
         ensures { IfOk result (λ made. made ≡ new_world limits) }
     {
         let slots = limits.slots as usize;

@@ -49,6 +49,7 @@ fn fire_node<S: Steps>(engine: &mut Engine, n: u64, steps: &mut S)
     requires kept { IsKept engine.old }
     requires running { engine.old.stopped ≡ false }
     ensures does { Does (λ setting s. fire_form setting n (form_at n s.world.nodes) s) (world_of engine.old) (world_of engine.new) (S.told steps.old) (S.told steps.new) engine.new.stopped }
+    ensures limits { engine.new.limits ≡ engine.old.limits }
     ensures kept { IsKept engine.new }
 {
     match task_tree(engine, n) {
@@ -62,6 +63,7 @@ fn fire<S: Steps>(engine: &mut Engine, n: u64, steps: &mut S)
     requires kept { IsKept engine.old }
     requires running { engine.old.stopped ≡ false }
     ensures does { Does (λ setting. fire setting n) (world_of engine.old) (world_of engine.new) (S.told steps.old) (S.told steps.new) engine.new.stopped }
+    ensures limits { engine.new.limits ≡ engine.old.limits }
     ensures kept { IsKept engine.new }
 {
     engine.firing = Some(n);
@@ -72,6 +74,7 @@ fn fire<S: Steps>(engine: &mut Engine, n: u64, steps: &mut S)
 pub(crate) fn turn<S: Steps>(engine: &mut Engine, steps: &mut S) -> Turned
     requires kept { IsKept engine.old }
     ensures turns { Turns (world_of engine.old) (world_of engine.new) (S.told steps.old) (S.told steps.new) result }
+    ensures limits { engine.new.limits ≡ engine.old.limits }
     ensures kept { IsKept engine.new }
 {
     if engine.stopped {

@@ -175,7 +175,12 @@ fn told_by(form: Option<Form>) -> Readiness
     match form {
         None => Readiness::Known(false),
         Some(Form::Later) => Readiness::Known(true),
-        Some(Form::Then { tree: Some(tree), .. }) => Readiness::Of(tree),
+        Some(
+            Form::Then {
+                tree: Some(tree),
+                ..
+            },
+        ) => Readiness::Of(tree),
         Some(Form::Then { tree: None, .. }) => Readiness::Known(false),
         Some(Form::Task { .. }) => Readiness::Known(false),
     }

@@ -49,11 +49,13 @@ fn frame_of(nodes: &Vec<Node>, n: u64) -> Option<Frame>
     ensures { result ≡ frame_found n nodes.now.items }
 {
     match form_of(nodes, n) {
-        Some(Form::Then {
-            value,
-            error,
-            tree: Some(tree),
-        }) => Some(Frame {
+        Some(
+            Form::Then {
+                value,
+                error,
+                tree: Some(tree),
+            },
+        ) => Some(Frame {
             node: n,
             value,
             error,

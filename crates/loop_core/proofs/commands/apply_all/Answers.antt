@@ -27,8 +27,8 @@ loop-command-preserved c =
       roots = λ root h. done.roots root (before.roots root h);
       others = done.others ∙ ap (λ (e : Engine). record e { order = c.apply_command.new.engine.order; nodes = c.apply_command.new.engine.nodes; names = c.apply_command.new.engine.names; next = c.apply_command.new.engine.next }) before.others;
       so_far = applying_on (map command_of c.args.commands.now) _ _ (world_of c.args.engine.now) (world_of c.loop-command.engine) (world_of c.apply_command.new.engine)
-        (subst (λ (l : List Command). Applying (map command_of c.args.commands.now) l (world_of c.args.engine.now) (world_of c.loop-command.engine)) (commands_from c.args.commands.now c.loop-command.command-index _ c.loop-command-test.true) before.so_far)
-        (rw (refusal_none c.apply_command.result (sym c.is_err.ensures.value ∙ c.if-is_err.false)) at done.applied);
+          (subst (λ (l : List Command). Applying (map command_of c.args.commands.now) l (world_of c.args.engine.now) (world_of c.loop-command.engine)) (commands_from c.args.commands.now c.loop-command.command-index _ c.loop-command-test.true) before.so_far)
+          (rw (refusal_none c.apply_command.result (sym c.is_err.ensures.value ∙ c.if-is_err.false)) at done.applied);
     }
 
 pub returns-clause-applied : goal.returns-clause-applied

@@ -11,5 +11,5 @@ invariant-loop-command l = record {
   running : l.engine.stopped ≡ false;
   roots : KeepsRoots l.fn.engine l.engine;
   others : SameRest l.fn.engine l.engine;
-  so_far : Applying (map command_of l.commands) (map command_of (drop l.command-index l.commands)) (world_of l.fn.engine) (world_of l.engine)
+  so_far : Applying (map command_of l.commands) (map command_of (drop l.command-index l.commands)) (world_of l.fn.engine) (world_of l.engine);
 }

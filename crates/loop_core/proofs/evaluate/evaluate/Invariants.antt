@@ -14,7 +14,7 @@ invariant-rising g l =
       others : SameFixed old l.engine;
       roots : KeepsRoots old l.engine;
       fits : FramesFit l.engine.nodes.items l.engine.next l.engine.frames.items;
-      rising : Rising (frames_found (old.limits.slots + 1) l.fn.root old.nodes.items) l.engine.frames.items (world_of old) (world_of l.engine) (g.S.Steps.told l.fn.steps) (g.S.Steps.told l.steps) l.outcome
+      rising : Rising (frames_found (old.limits.slots + 1) l.fn.root old.nodes.items) l.engine.frames.items (world_of old) (world_of l.engine) (g.S.Steps.told l.fn.steps) (g.S.Steps.told l.steps) l.outcome;
     }
 
 abbrev pub decreases-rising : goal.decreases-rising

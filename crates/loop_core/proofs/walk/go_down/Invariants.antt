@@ -6,7 +6,7 @@ abbrev pub invariant-loop-left : goal.invariant-loop-left
 invariant-loop-left l = record {
   way : l.path.items ++ tree_path l.left l.at l.nodes.items ≡ tree_path l.depth l.root l.nodes.items;
   few : vec_len l.path + l.left ≡ l.depth;
-  capacity : vec_capacity l.fn.path ≤ vec_capacity l.path
+  capacity : vec_capacity l.fn.path ≤ vec_capacity l.path;
 }
 
 abbrev pub decreases-loop-left : goal.decreases-loop-left

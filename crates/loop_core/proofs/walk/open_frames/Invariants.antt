@@ -6,7 +6,7 @@ abbrev pub invariant-loop-left : goal.invariant-loop-left
 invariant-loop-left l = record {
   way : l.frames.items ++ frames_found l.left l.at l.nodes.items ≡ frames_found l.depth l.root l.nodes.items;
   few : vec_len l.frames + l.left ≡ l.depth;
-  capacity : vec_capacity l.fn.frames ≤ vec_capacity l.frames
+  capacity : vec_capacity l.fn.frames ≤ vec_capacity l.frames;
 }
 
 abbrev pub decreases-loop-left : goal.decreases-loop-left
