@@ -8,7 +8,7 @@ use Rattle.std.proofs.lemmas.Bool.Decides.{nat_tests}
 use Rattle.std.proofs.lemmas.List.{length-map}
 use Rattle.std.proofs.lemmas.Map.Made.{length-le_from_is_member}
 use Rattle.kj_base.specs.Queue.{Events, BreadthFirst, next_armed, is_armed}
-use Rattle.kj_model.proofs.Kept.{armed_keeps}
+use Rattle.kj_base.proofs.QueueLemmas.{armed_keeps}
 use Rattle.loop_core.specs.declared.engine.Engine.{Engine}
 use Rattle.loop_core.specs.declared.nodes.Node.{Node}
 use Rattle.loop_core.specs.declared.nodes.Listening.{Listening}

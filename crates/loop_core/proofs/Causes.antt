@@ -16,7 +16,6 @@ use Rattle.kj_model.specs.Uses.{is_name, found_if, is_promise}
 use Rattle.kj_model.specs.Free.{Guard, usual}
 use Rattle.kj_model.specs.Effects.{effect, node_of, leaf_built, over_named}
 use Rattle.kj_model.specs.Apply.{Refused, Unknown, Taken, Full, refusal, refused_stopped, refused_inside, refused_unknown, refused_wrong, refused_taken, refused_busy, refused_full, is_busy, is_busy_at, is_full, is_free_of, apply, applied, with_awaited}
-use Rattle.kj_model.proofs.Placed.{placed_spots}
 use Rattle.loop_core.specs.declared.names.Named.{Named as NamedCase}
 use Rattle.loop_core.specs.Names.{shown_name, names_of, root_found, without_named, with_named, has_name}
 use Rattle.loop_core.specs.Seen.{Seen, Answer, tabled, plain, unplaced}

@@ -1,7 +1,7 @@
 -- What a new loop keeps.
 use Rattle.std.proofs.Common.{◌≡◌, ℕ, ◌≤◌, ◌+◌, List, [], arith, length, sym, subst, ◌^◌}
 use Rattle.kj_base.specs.Queue.{IsQueue, no_events}
-use Rattle.kj_model.proofs.Kept.{empty_is}
+use Rattle.kj_base.proofs.QueueLemmas.{empty_is}
 use Rattle.loop_core.specs.declared.engine.Engine.{Engine}
 use Rattle.loop_core.specs.declared.nodes.Node.{Node}
 use Rattle.loop_core.specs.declared.names.Named.{Named}

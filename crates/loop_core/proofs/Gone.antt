@@ -11,7 +11,7 @@ use Rattle.loop_core.specs.declared.names.Named.{Named}
 use Rattle.loop_core.specs.Nodes.{without_node, is_event, tree_of}
 use Rattle.loop_core.specs.Kept.{is_live, is_task, TreeFits, TreesFit, RootsFit, AreLive, AreBuilt, IsKept, HasRoom}
 use Rattle.loop_core.specs.Order.{events_of}
-use Rattle.kj_model.proofs.Kept.{disarmed_keeps}
+use Rattle.kj_base.proofs.QueueLemmas.{disarmed_keeps}
 use Rattle.loop_core.proofs.Alls.{all_more, all_filter, none_filter, filter_shorter}
 
 other_number : (m x n : ℕ) → (x == n) ≡ false → (m == x) ≡ true → not (m == n) ≡ true

@@ -11,7 +11,7 @@ use Rattle.kj_model.specs.World.{World, State, Setting}
 use Rattle.kj_model.specs.Changes.{silent}
 use Rattle.kj_model.specs.Fire.{fire, fire_form, with_firing}
 use Rattle.kj_model.specs.Calls.{Turned, Fired, Idle, NoMemory, Stopped, turn, turn_unless, turn_at, after_turn, turned_by, rewound_world, taken_world}
-use Rattle.kj_model.proofs.Kept.{taken_keeps, rewound_keeps}
+use Rattle.kj_base.proofs.QueueLemmas.{taken_keeps, rewound_keeps}
 use Rattle.loop_core.specs.declared.engine.Engine.{Engine}
 use Rattle.loop_core.specs.declared.order.Order.{Order}
 use Rattle.loop_core.specs.declared.nodes.Node.{Node}
