@@ -1,0 +1,4 @@
+pub mod TextLemmas
+pub mod SkipLemmas
+pub mod RequestLemmas
+pub mod ReadLemmas

@@ -1,0 +1,4 @@
+pub mod Text
+pub mod Services
+pub mod Requests
+pub mod Reading

@@ -1,0 +1,182 @@
+//! The texts of answers.
+ghost use Rattle.std.specs.Prelude.{◌≡◌, ◌++◌, IfOk, OnOk, OnErr};
+ghost use Rattle.http_core.specs.Text.{reason, status_line, has_no_length, length_line, connection_line, is_chunked, all_chunks, chunked_text, body_text, head_text, text, fault_text};
+
+use crate::{Answer, Request};
+use http_frames::write_chunk;
+use itoa::Buffer;
+use kj_base::{Bytes, NoMemory};
+use std::alloc::Global;
+
+/// The octets of a chunk of an answer, but for the last.
+const CHUNK: usize = 4096;
+
+/// Room for the lines of an answer: the longest have 94 octets.
+const HEAD_ROOM: usize = 96;
+
+fn reason(status: u16) -> &'static [u8]
+    ensures { result.now ≡ reason status }
+{
+    match status {
+        200 => b"OK",
+        204 => b"No Content",
+        304 => b"Not Modified",
+        400 => b"Bad Request",
+        404 => b"Not Found",
+        500 => b"Internal Server Error",
+        501 => b"Not Implemented",
+        503 => b"Service Unavailable",
+        _ => b"",
+    }
+}
+
+#[tactic(auto, unfolding(crate::specs::Text::status_line))]
+fn push_status(out: &mut Bytes, status: u16) -> Result<(), NoMemory>
+    ensures { OnOk result (out.new ≡ out.old ++ status_line status) }
+{
+    let mut buffer = Buffer::new();
+    out.extend(b"HTTP/1.1 ")?;
+    out.extend(buffer.format(status).as_bytes())?;
+    out.push(b' ')?;
+    out.extend(reason(status))?;
+    out.extend(b"\r\n")
+}
+
+fn has_no_length(status: u16) -> bool
+    ensures { result ≡ has_no_length status }
+{
+    status == 204 || status == 304
+}
+
+fn is_chunked(minor: u8, answer: &Answer) -> bool
+    ensures { result ≡ is_chunked minor answer.now }
+{
+    answer.chunked && minor == 1
+}
+
+#[tactic(auto, unfolding(crate::specs::Text::length_line))]
+fn push_length(out: &mut Bytes, minor: u8, answer: &Answer) -> Result<(), NoMemory>
+    ensures { OnOk result (out.new ≡ out.old ++ length_line minor answer.now) }
+{
+    if has_no_length(answer.status) {
+        return Ok(());
+    }
+    if is_chunked(minor, answer) {
+        return out.extend(b"Transfer-Encoding: chunked\r\n");
+    }
+    let mut buffer = Buffer::new();
+    out.extend(b"Content-Length: ")?;
+    out.extend(buffer.format(answer.body.len()).as_bytes())?;
+    out.extend(b"\r\n")
+}
+
+#[tactic(auto, unfolding(crate::specs::Text::connection_line))]
+fn push_connection(out: &mut Bytes, minor: u8, closes: bool) -> Result<(), NoMemory>
+    ensures { OnOk result (out.new ≡ out.old ++ connection_line minor closes) }
+{
+    if closes {
+        out.extend(b"Connection: close\r\n")
+    } else if minor == 0 {
+        out.extend(b"Connection: keep-alive\r\n")
+    } else {
+        Ok(())
+    }
+}
+
+/// Appends the octets in chunks.
+fn push_chunks(out: &mut Bytes, octets: &[u8]) -> Result<(), NoMemory>
+    ensures { OnOk result (out.new ≡ out.old ++ all_chunks octets.now) }
+{
+    let mut rest = octets;
+    while !rest.is_empty() {
+        let (piece, after) = rest.split_at(CHUNK.min(rest.len()));
+        write_chunk(out, piece)?;
+        rest = after;
+    }
+    Ok(())
+}
+
+/// The octets in chunks, with the last one.
+#[tactic(auto, unfolding(crate::specs::Text::chunked_text))]
+fn chunked_text(alloc: Global, octets: &[u8]) -> Result<Bytes, NoMemory>
+    ensures { IfOk result (λ text. text ≡ chunked_text octets.now) }
+{
+    let mut text = Bytes::new(alloc);
+    push_chunks(&mut text, octets)?;
+    text.extend(b"0\r\n\r\n")?;
+    Ok(text)
+}
+
+/// Appends the body of an answer, as its request wants it.
+#[tactic(auto, unfolding(crate::specs::Text::body_text))]
+fn push_body(
+    alloc: Global,
+    out: &mut Bytes,
+    request: &Request,
+    answer: &Answer,
+) -> Result<(), NoMemory>
+    ensures ok { OnOk result (out.new ≡ out.old ++ body_text request.now.head.method request.now.head.minor answer.now) }
+    ensures err { OnErr result (out.new ≡ out.old) }
+{
+    let method = request.head.method.as_slice();
+    if method == b"HEAD".as_slice() || has_no_length(answer.status) {
+        return Ok(());
+    }
+    if is_chunked(request.head.minor, answer) {
+        let text = chunked_text(alloc, answer.body.as_slice())?;
+        return out.extend(text.as_slice());
+    }
+    out.extend(answer.body.as_slice())
+}
+
+/// The lines of an answer, with the empty one.
+#[tactic(auto, unfolding(crate::specs::Text::head_text))]
+fn head_text(alloc: Global, minor: u8, answer: &Answer, closes: bool) -> Result<Bytes, NoMemory>
+    ensures { IfOk result (λ text. text ≡ head_text minor answer.now closes) }
+{
+    let mut text = Bytes::with_capacity(alloc, HEAD_ROOM)?;
+    push_status(&mut text, answer.status)?;
+    push_length(&mut text, minor, answer)?;
+    push_connection(&mut text, minor, closes)?;
+    text.extend(b"\r\n")?;
+    Ok(text)
+}
+
+/// Appends the text of an answer.
+#[tactic(auto, unfolding(crate::specs::Text::text))]
+pub(crate) fn push_answer(
+    alloc: Global,
+    out: &mut Bytes,
+    request: &Request,
+    answer: &Answer,
+    closes: bool,
+) -> Result<(), NoMemory>
+    ensures ok { OnOk result (out.new ≡ out.old ++ text request.now answer.now closes) }
+    ensures err { OnErr result (out.new ≡ out.old) }
+{
+    let before = out.len();
+    let head = head_text(alloc, request.head.minor, answer, closes)?;
+    out.extend(head.as_slice())?;
+    match push_body(alloc, out, request, answer) {
+        Ok(()) => Ok(()),
+        Err(error) => {
+            out.truncate(before);
+            Err(error)
+        }
+    }
+}
+
+/// Appends the text of a fault.
+#[tactic(auto, unfolding(crate::specs::Text::fault_text))]
+pub(crate) fn push_fault(out: &mut Bytes, code: u16) -> Result<(), NoMemory>
+    ensures ok { OnOk result (out.new ≡ out.old ++ fault_text code) }
+    ensures err { OnErr result (out.new ≡ out.old) }
+{
+    if code == 501 {
+        out.extend(
+            b"HTTP/1.1 501 Not Implemented\r\nContent-Length: 0\r\nConnection: close\r\n\r\n",
+        )
+    } else {
+        out.extend(b"HTTP/1.1 400 Bad Request\r\nContent-Length: 0\r\nConnection: close\r\n\r\n")
+    }
+}
