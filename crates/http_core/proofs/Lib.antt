@@ -2,3 +2,5 @@ pub mod TextLemmas
 pub mod SkipLemmas
 pub mod RequestLemmas
 pub mod ReadLemmas
+pub mod ServeLemmas
+pub mod ConnectionLemmas

@@ -2,18 +2,17 @@
 use Rattle.std.proofs.Common.{◌≡◌, ◌≢◌, ℕ, ◌+◌, ◌-◌, ◌<◌, ◌≤◌, ◌⊎◌, Bool, true, false, ◌&&◌, nat_eq, nat_lt, List, [], ◌∷◌, ◌++◌, length, take, drop, refl, sym, ap, subst, ◌∙◌, arith, cond, inl, inr}
 use Rattle.std.proofs.lemmas.List.{append-nil, append_assoc, length-append, length-drop, take-append-drop}
 use Rattle.std.proofs.lemmas.Bool.{ltb-true}
-use Rattle.httparse.specs.Grammar.{print_section}
 use Rattle.http_heads.specs.declared.field.Field.{Field}
 use Rattle.http_heads.specs.declared.field.Head.{Head}
 use Rattle.http_heads.specs.declared.Framing.{Framing}
 use Rattle.http_heads.specs.declared.Framing.TheVariants.{Empty, Length, Chunked, Fault}
 use Rattle.http_heads.specs.Heads.{IsHead, StartsWithHead, HasNoHead, NeverHasHead}
-use Rattle.http_heads.specs.Section.{StartsWithSection}
 use Rattle.http_heads.specs.Framing.{framing_of}
 use Rattle.http_heads.specs.Ending.{line_end_start, ends_lines}
 use Rattle.http_heads.proofs.EndingLemmas.{head_ends}
 use Rattle.http_heads.proofs.HeadLemmas.{head_unique}
-use Rattle.http_frames.specs.Chunks.{Chunk, chunk_text, line_text, IsTrailer, Chunked as ChunkedText, Body, HasNoBody, NeverHasBody}
+use Rattle.http_frames.specs.Chunks.{Body, HasNoBody, NeverHasBody}
+use Rattle.http_frames.proofs.ChunkLemmas.{body_append as chunks_append}
 use Rattle.http_core.specs.declared.message.Request.{Request}
 use Rattle.http_core.specs.Requests.{skip_pairs, IsBody, IsRequest, HasNoRequest, HasFault, IsFault}
 use Rattle.http_core.proofs.SkipLemmas.{same_split}
@@ -56,41 +55,10 @@ request_long bytes rest request is = omega (arith, front_long is.front request.h
 
 -- ---- more octets behind
 
-trailer_append : (bytes : List ℕ) (trailer : List Field) (rest more : List ℕ) → IsTrailer bytes trailer rest → IsTrailer (bytes ++ more) trailer (rest ++ more)
-trailer_append bytes trailer rest more is =
-    let has = is.1 in (
-      is.0,
-      record {
-        lines = has.lines;
-        last = has.last;
-        reads = (has.reads.0, ap (λ (b : List ℕ). b ++ more) has.reads.1 ∙ append_assoc (print_section has.lines has.last) rest more);
-        few = has.few;
-        len_is = has.len_is;
-        short = has.short;
-        parts = has.parts;
-      },
-    )
-
-chunk_more : (c : Chunk) (middle more : List ℕ) → chunk_text c middle ++ more ≡ chunk_text c (middle ++ more)
-chunk_more c middle more = simp append_assoc
-
-chunked_append : (cs : List Chunk) (bytes body : List ℕ) (trailer : List Field) (rest more : List ℕ) → ChunkedText cs bytes body trailer rest → ChunkedText cs (bytes ++ more) body trailer (rest ++ more)
-chunked_append [] bytes body trailer rest more is =
-    (is.0, is.1 ++ more, is.2, ap (λ (b : List ℕ). b ++ more) is.3 ∙ append_assoc is.0 (13 ∷ 10 ∷ is.1) more, is.4, trailer_append is.1 trailer rest more is.5)
-chunked_append (c ∷ cs) bytes body trailer rest more is =
-    (is.0 ++ more, is.1, is.2, ap (λ (b : List ℕ). b ++ more) is.3 ∙ chunk_more c is.0 more, is.4, chunked_append cs is.0 is.1 trailer rest more is.5)
-
-pub chunked_body_append : (bytes body : List ℕ) (trailer : List Field) (rest more : List ℕ) → Body bytes body trailer rest → Body (bytes ++ more) body trailer (rest ++ more)
-chunked_body_append bytes body trailer rest more is = record {
-  chunks = is.chunks;
-  text = chunked_append is.chunks bytes body trailer rest more is.text;
-  small = is.small;
-}
-
 pub body_append : (framing : Framing) (bytes body rest more : List ℕ) → IsBody framing bytes body rest → IsBody framing (bytes ++ more) body (rest ++ more)
 body_append Empty bytes body rest more is = (is.0, ap (λ (b : List ℕ). b ++ more) is.1)
 body_append (Length n) bytes body rest more is = (is.0, ap (λ (b : List ℕ). b ++ more) is.1 ∙ append_assoc body rest more)
-body_append Chunked bytes body rest more is = (is.0, chunked_body_append bytes body is.0 rest more is.1)
+body_append Chunked bytes body rest more is = (is.0, chunks_append bytes more body is.0 rest is.1)
 body_append (Fault code) bytes body rest more is = is
 
 pub request_append : (bytes : List ℕ) (request : Request) (rest more : List ℕ) → IsRequest bytes request rest → IsRequest (bytes ++ more) request (rest ++ more)
@@ -182,5 +150,5 @@ pub chunked_whole : (head : Head) (behind piece body : List ℕ) (trailer : List
     → IsBody (framing_of head) (behind ++ piece) body (drop (length piece - left) piece)
 chunked_whole head behind piece body trailer count left framing inside left_is is =
     let text : (behind ++ take count piece) ++ drop count piece ≡ behind ++ piece = append_assoc behind (take count piece) (drop count piece) ∙ ap (λ (b : List ℕ). behind ++ b) (take-append-drop count piece) in
-    let whole : Body (behind ++ piece) body trailer (drop count piece) = subst (λ (b : List ℕ). Body b body trailer (drop count piece)) text (chunked_body_append (behind ++ take count piece) body trailer [] (drop count piece) is) in
+    let whole : Body (behind ++ piece) body trailer (drop count piece) = subst (λ (b : List ℕ). Body b body trailer (drop count piece)) text (chunks_append (behind ++ take count piece) (drop count piece) body trailer [] is) in
     subst (λ (f : Framing). IsBody f (behind ++ piece) body (drop (length piece - left) piece)) (sym framing) (trailer, subst (λ (b : List ℕ). Body (behind ++ piece) body trailer b) (sym (from_end piece count left inside left_is)) whole)

@@ -4,13 +4,13 @@ use Rattle.std.proofs.lemmas.List.{append_assoc, append-nil, length-drop, take_m
 use Rattle.std.proofs.Math.ListN.{drop_of_length-le}
 use Rattle.std.proofs.lemmas.Bool.{cases_lt}
 use Rattle.std.proofs.lemmas.Bool.Decides.{nat_tests}
-use Rattle.http_frames.specs.Written.{written_chunk}
+use Rattle.http_frames.specs.Written.{chunk_of}
 use Rattle.http_core.specs.Text.{chunks, all_chunks}
 
 count_step : (n k : ℕ) → 0 < n → k ≡ n - 4096 → (n + 4095) / 4096 ≡ suc ((k + 4095) / 4096)
 count_step n k some left = omega arith
 
-pub first_chunk : (xs : List ℕ) → 0 < length xs → all_chunks xs ≡ written_chunk (take 4096 xs) ++ all_chunks (drop 4096 xs)
+pub first_chunk : (xs : List ℕ) → 0 < length xs → all_chunks xs ≡ chunk_of (take 4096 xs) ++ all_chunks (drop 4096 xs)
 unfolding all_chunks
 first_chunk xs some = ap (λ (n : ℕ). chunks n xs) (count_step (length xs) (length (drop 4096 xs)) some (length-drop 4096 xs))
 
@@ -26,12 +26,12 @@ drop_min xs = elim (cases_lt (length xs) 4096) [
 pub some_left : (n : ℕ) → false ≡ nat_eq n 0 → 0 < n
 some_left n h = grind (arith, nat_tests)
 
-pub chunk_step : (out pushed xs piece after : List ℕ) (m : ℕ) → m ≡ min 4096 (length xs) → 0 < length xs → piece ≡ take m xs → after ≡ drop m xs → pushed ≡ out ++ written_chunk piece → pushed ++ all_chunks after ≡ out ++ all_chunks xs
+pub chunk_step : (out pushed xs piece after : List ℕ) (m : ℕ) → m ≡ min 4096 (length xs) → 0 < length xs → piece ≡ take m xs → after ≡ drop m xs → pushed ≡ out ++ chunk_of piece → pushed ++ all_chunks after ≡ out ++ all_chunks xs
 chunk_step out pushed xs piece after m size some front back push =
     let first : piece ≡ take 4096 xs = front ∙ ap (λ (n : ℕ). take n xs) size ∙ take_min 4096 xs in
     let others : after ≡ drop 4096 xs = back ∙ ap (λ (n : ℕ). drop n xs) size ∙ drop_min xs in
-    (λ i. push i ++ all_chunks (others i)) ∙ append_assoc out (written_chunk piece) (all_chunks (drop 4096 xs))
-    ∙ (λ i. out ++ (written_chunk (first i) ++ all_chunks (drop 4096 xs))) ∙ ap (λ (b : List ℕ). out ++ b) (sym (first_chunk xs some))
+    (λ i. push i ++ all_chunks (others i)) ∙ append_assoc out (chunk_of piece) (all_chunks (drop 4096 xs))
+    ∙ (λ i. out ++ (chunk_of (first i) ++ all_chunks (drop 4096 xs))) ∙ ap (λ (b : List ℕ). out ++ b) (sym (first_chunk xs some))
 
 pub no_chunks : (xs : List ℕ) → length xs ≡ 0 → all_chunks xs ≡ []
 unfolding all_chunks

@@ -1,6 +1,6 @@
 -- The texts of answers (RFC 9112, sections 4, 6 and 7.1).
 use Rattle.std.specs.Prelude.{ℕ, zero, suc, ◌+◌, ◌/◌, Bool, not, List, [], ◌∷◌, ◌++◌, ◌&&◌, ◌||◌, ◌==◌, length, take, drop, codes, decimal, bytes_eq, if◌then◌else◌}
-use Rattle.http_frames.specs.Written.{written_chunk}
+use Rattle.http_frames.specs.Written.{chunk_of}
 use Rattle.http_core.specs.declared.message.Request.{Request}
 use Rattle.http_core.specs.declared.message.Answer.{Answer}
 
@@ -42,7 +42,7 @@ connection_line minor closes =
 -- so many chunks of 4,096 octets each; the last may be shorter
 abbrev pub chunks : ℕ → List ℕ → List ℕ
 chunks zero octets = []
-chunks (suc n) octets = written_chunk (take 4096 octets) ++ chunks n (drop 4096 octets)
+chunks (suc n) octets = chunk_of (take 4096 octets) ++ chunks n (drop 4096 octets)
 
 -- as many chunks as the octets fill
 unfoldable pub all_chunks : List ℕ → List ℕ

@@ -1,10 +1,14 @@
 //! A connection that reads requests of HTTP/1.x and writes the answers of a service.
 #![tactic(auto)]
 
+mod connection;
 mod message;
 mod read;
 mod service;
+#[cfg(test)]
+mod tests;
 mod text;
 
+pub use connection::{Connection, Fed, State};
 pub use message::{Answer, End, Request};
 pub use service::{Echo, Service, Target};

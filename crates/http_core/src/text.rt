@@ -84,13 +84,13 @@ fn push_connection(out: &mut Bytes, minor: u8, closes: bool) -> Result<(), NoMem
 }
 
 /// Appends the octets in chunks.
-fn push_chunks(out: &mut Bytes, octets: &[u8]) -> Result<(), NoMemory>
+fn push_chunks(alloc: Global, out: &mut Bytes, octets: &[u8]) -> Result<(), NoMemory>
     ensures { OnOk result (out.new ≡ out.old ++ all_chunks octets.now) }
 {
     let mut rest = octets;
     while !rest.is_empty() {
         let (piece, after) = rest.split_at(CHUNK.min(rest.len()));
-        write_chunk(out, piece)?;
+        write_chunk(alloc, out, piece)?;
         rest = after;
     }
     Ok(())
@@ -102,7 +102,7 @@ fn chunked_text(alloc: Global, octets: &[u8]) -> Result<Bytes, NoMemory>
     ensures { IfOk result (λ text. text ≡ chunked_text octets.now) }
 {
     let mut text = Bytes::new(alloc);
-    push_chunks(&mut text, octets)?;
+    push_chunks(alloc, &mut text, octets)?;
     text.extend(b"0\r\n\r\n")?;
     Ok(text)
 }
