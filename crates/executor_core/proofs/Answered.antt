@@ -1,6 +1,6 @@
 -- What each answer tells of the board: a move, or no change.
-use Rattle.std.proofs.Common.{◌≡◌, ℕ, zero, suc, ◌+◌, ◌<◌, ◌≤◌, ◌≢◌, ◌⊎◌, Bool, true, false, cond, List, [], ◌∷◌, ◌++◌, map, length, set, refl, ap, ◌∙◌, subst, sym, arith, inl, inr, ⊎_elim, length-append, Option, Some, None, nat_le}
-use Rattle.std.specs.Prelude.{slice_get, slice_set}
+use Rattle.std.proofs.Common.{◌≡◌, ℕ, ◌<◌, ◌≢◌, Bool, true, false, cond, List, [], ◌∷◌, ◌++◌, map, length, refl, ap, ◌∙◌, subst, sym, arith, ⊎_elim, length-append, Option, Some, None, nat_le}
+use Rattle.std.specs.Prelude.{slice_get}
 use Rattle.std.proofs.lemmas.Bool.{leb-false}
 use Rattle.kj_base.specs.declared.numbers.StepId.{StepId}
 use Rattle.kj_base.specs.declared.outcomes.Outcome.{Outcome}
@@ -13,7 +13,7 @@ use Rattle.executor_core.specs.declared.call.Call.TheVariants.{Submit, Next, Fin
 use Rattle.executor_core.specs.declared.call.Reply.{Reply}
 use Rattle.executor_core.specs.declared.call.Reply.TheVariants.{Closed, Full, Ticket, Start, Stop, Empty, Done, Withdrawn, Asked, TooLate, Ended, NotYet}
 use Rattle.executor_core.specs.Acts.{Desk, desk, act, MayAct, IsOwn, IsRunning, NoneRuns, least, is_queued, is_canceling, queued_state, canceling_state, running_state, set_state, with_state, new_request, submitted, stopped, nexted, finished, cancelled, cancelled_at, collected, collected_at, start_of, closes, shut}
-use Rattle.executor_core.specs.Histories.{entry, after, LegalFrom, fresh, Legal, board_of}
+use Rattle.executor_core.specs.Histories.{entry, fresh, Legal, board_of}
 use Rattle.executor_core.proofs.Moves.{Shift, Starts, Stops, Finishes, Withdraws, Asks, Collects, Move, Submits, Sets, Closes, least_is, started}
 use Rattle.executor_core.proofs.Steps.{at_state}
 use Rattle.executor_core.proofs.Laws.{after_append, legal_append}

@@ -1,16 +1,20 @@
 -- The laws of legal histories.
-use Rattle.std.proofs.Common.{◌≡◌, ℕ, suc, ◌+◌, ◌-◌, ◌*◌, ◌≤◌, ◌≢◌, ◌⊎◌, Bool, true, false, cond, List, [], ◌∷◌, ◌++◌, length, refl, ap, ◌∙◌, subst, sym, arith, inl, inr, ⊎_elim, le_refl, eq-eqb, ne_eqb, Option, Some, None}
+use Rattle.std.proofs.Common.{◌≡◌, ℕ, suc, ◌+◌, ◌-◌, ◌*◌, ◌≤◌, ◌≢◌, ◌⊎◌, Bool, true, false, cond, List, [], ◌∷◌, ◌++◌, length, refl, ap, ◌∙◌, subst, sym, arith, inl, inr, ⊎_elim, le_refl, eq-eqb, ne_eqb, Option, Some, None, ◌==◌}
 use mathlib.Core.Logic.{dite}
 use native.Mathlib.Decide.{ℕ_discrete}
 use Rattle.std.specs.Prelude.{slice_get}
 use Rattle.executor_core.specs.declared.request.Request.{Request}
 use Rattle.executor_core.specs.declared.entry.Entry.{Entry}
 use Rattle.executor_core.specs.declared.call.Reply.{Reply}
+use Rattle.executor_core.specs.declared.call.Call.TheVariants.{Submit, Next}
+use Rattle.executor_core.specs.declared.call.Reply.TheVariants.{Ticket, Start}
 use Rattle.executor_core.specs.Acts.{Desk, act, IsOwn, IsRunning, NoneRuns, queued_state, running_state, ended_state}
-use Rattle.executor_core.specs.Histories.{after, LegalFrom, fresh, Legal, board_of, times, of_caller, is_submit, is_start, is_finish, is_spend, starts, finishes, spends, over, ends_by, ends_from, starts_in, ends_in, Outstanding, Unfinished, AllFinished, Settled}
+use Rattle.executor_core.specs.Histories.{entry, after, LegalFrom, fresh, Legal, board_of, times, of_caller, is_submit, is_start, is_finish, is_spend, starts, finishes, spends, over, ends_by, ends_from, starts_in, ends_in, Outstanding, Unfinished, AllFinished, Settled}
 use Rattle.executor_core.proofs.Moves.{Move, moves}
 use Rattle.executor_core.proofs.Steps.{unstarted, start_step, end_step, works, work_step, gone, gone_step, by_target, Shut, shut_step, own_step, submit_step}
 use Rattle.executor_core.proofs.Weights.{left_on, left_step}
+use Rattle.std.proofs.lemmas.List.Elements.{filter-append}
+use Rattle.kj_base.specs.declared.numbers.StepId.{StepId}
 
 -- a beginning of a legal history is legal, and so is what follows it, from the board that it leaves
 pub legal_prefix : (d : Desk) (es fs : List Entry) → LegalFrom d (es ++ fs) → LegalFrom d es × LegalFrom (after d es) fs
@@ -191,3 +195,66 @@ pub never_finished : (limit : ℕ) (es : List Entry) → Legal limit es → (n :
 never_finished limit es l n q at w = let h = works_between (fresh limit) es l n in let s = starts_once (fresh limit) es l n in let f = few_times (is_finish n) 0 es in
     let a : ℕ = times (is_start n) es in let b : ℕ = times (is_finish n) es in let b' : ℕ = times (is_finish n) (of_caller 0 es) in let x : ℕ = works (slice_get (board_of limit es).requests n) in let u : ℕ = unstarted (slice_get (board_of limit es).requests n) in
     let h' : 0 + a ≡ x + b = h in let s' : a + u ≤ 1 = s in let f' : b' ≤ b = f in let v : u ≡ 1 = ap unstarted at ∙ ap (λ (b : Bool). cond b 1 0) w in let g : b' ≡ 0 = omega arith in g
+
+mine_last : (c : ℕ) (es : List Entry) (e : Entry) → e.caller ≡ c → of_caller c (es ++ e ∷ []) ≡ of_caller c es ++ e ∷ []
+mine_last c es e is = filter-append (λ (x : Entry). x.caller == c) es (e ∷ []) ∙ ap (λ (l : List Entry). of_caller c es ++ l) (mine_here c e [] is)
+
+-- what was just submitted is outstanding by its submitter's entries
+pub new_outstanding : (limit : ℕ) (es : List Entry) → Legal limit es → (c n : ℕ) → slice_get (board_of limit es).requests n ≡ None → (step : StepId) (words : List ℕ) → Outstanding (of_caller c (es ++ entry c (Submit step words) (Ticket n) ∷ [])) n
+new_outstanding limit es l c n none step words = let e : Entry = entry c (Submit step words) (Ticket n) in let z = never_spent limit es l c n none in
+    let s = times_append (is_submit n) (of_caller c es) (e ∷ []) in let t = times_append (is_spend n) (of_caller c es) (e ∷ []) in
+    let one : cond (is_submit n e) 1 0 + 0 ≡ 1 = ap (λ (b : Bool). cond b 1 0 + 0) (eq-eqb n n refl) in
+    subst (λ (m : List Entry). Outstanding m n) (sym (mine_last c es e refl)) (
+      (let a : ℕ = times (is_submit n) (of_caller c es) in let b : ℕ = times (is_submit n) (of_caller c es ++ e ∷ []) in let x : ℕ = cond (is_submit n e) 1 0 + 0 in let s' : b ≡ a + x = s in let o : x ≡ 1 = one in let g : 1 ≤ b = omega arith in g),
+      (let a : ℕ = times (is_spend n) (of_caller c es) in let b : ℕ = times (is_spend n) (of_caller c es ++ e ∷ []) in let t' : b ≡ a + 0 = t in let z' : a ≡ 0 = z in let g : b ≡ 0 = omega arith in g),
+    )
+
+-- what was just started is unfinished by the target's entries
+pub new_unfinished : (limit : ℕ) (es : List Entry) → Legal limit es → (n : ℕ) (q : Request) → slice_get (board_of limit es).requests n ≡ Some q → queued_state q.state ≡ true → (step : StepId) (words : List ℕ) → Unfinished (of_caller 0 (es ++ entry 0 Next (Start n step words) ∷ [])) n
+new_unfinished limit es l n q at w step words = let e : Entry = entry 0 Next (Start n step words) in let z = never_finished limit es l n q at w in
+    let s = times_append (is_start n) (of_caller 0 es) (e ∷ []) in let t = times_append (is_finish n) (of_caller 0 es) (e ∷ []) in
+    let one : cond (is_start n e) 1 0 + 0 ≡ 1 = ap (λ (b : Bool). cond b 1 0 + 0) (eq-eqb n n refl) in
+    subst (λ (m : List Entry). Unfinished m n) (sym (mine_last 0 es e refl)) (
+      (let a : ℕ = times (is_start n) (of_caller 0 es) in let b : ℕ = times (is_start n) (of_caller 0 es ++ e ∷ []) in let x : ℕ = cond (is_start n e) 1 0 + 0 in let s' : b ≡ a + x = s in let o : x ≡ 1 = one in let g : 1 ≤ b = omega arith in g),
+      (let a : ℕ = times (is_finish n) (of_caller 0 es) in let b : ℕ = times (is_finish n) (of_caller 0 es ++ e ∷ []) in let t' : b ≡ a + 0 = t in let z' : a ≡ 0 = z in let g : b ≡ 0 = omega arith in g),
+    )
+
+-- what a caller's own entries say, with one entry more
+one_more : (p : Entry → Bool) (mine : List Entry) (e : Entry) → times p (mine ++ e ∷ []) ≡ times p mine + cond (p e) 1 0
+one_more p mine e = times_append p mine (e ∷ []) ∙ (let a : ℕ = times p mine in let x : ℕ = cond (p e) 1 0 in let g : a + (x + 0) ≡ a + x = omega arith in g)
+
+pub outstanding_stays : (n : ℕ) (mine : List Entry) (e : Entry) → is_spend n e ≡ false → Outstanding mine n → Outstanding (mine ++ e ∷ []) n
+outstanding_stays n mine e no_spend u = let s = one_more (is_submit n) mine e in let t = one_more (is_spend n) mine e in let z : cond (is_spend n e) 1 0 ≡ 0 = ap (λ (b : Bool). cond b 1 0) no_spend in
+    let a : ℕ = times (is_submit n) mine in let b : ℕ = times (is_spend n) mine in let x : ℕ = cond (is_submit n e) 1 0 in let y : ℕ = cond (is_spend n e) 1 0 in
+    let a' : ℕ = times (is_submit n) (mine ++ e ∷ []) in let b' : ℕ = times (is_spend n) (mine ++ e ∷ []) in let s' : a' ≡ a + x = s in let t' : b' ≡ b + y = t in let z' : y ≡ 0 = z in let p : 1 ≤ a = u.0 in let q : b ≡ 0 = u.1 in
+    ((let g : 1 ≤ a' = omega arith in g), (let g : b' ≡ 0 = omega arith in g))
+
+pub outstanding_was : (n : ℕ) (mine : List Entry) (e : Entry) → is_submit n e ≡ false → Outstanding (mine ++ e ∷ []) n → Outstanding mine n
+outstanding_was n mine e no_submit u = let s = one_more (is_submit n) mine e in let t = one_more (is_spend n) mine e in let z : cond (is_submit n e) 1 0 ≡ 0 = ap (λ (b : Bool). cond b 1 0) no_submit in
+    let a : ℕ = times (is_submit n) mine in let b : ℕ = times (is_spend n) mine in let x : ℕ = cond (is_submit n e) 1 0 in let y : ℕ = cond (is_spend n e) 1 0 in
+    let a' : ℕ = times (is_submit n) (mine ++ e ∷ []) in let b' : ℕ = times (is_spend n) (mine ++ e ∷ []) in let s' : a' ≡ a + x = s in let t' : b' ≡ b + y = t in let z' : x ≡ 0 = z in let p : 1 ≤ a' = u.0 in let q : b' ≡ 0 = u.1 in
+    ((let g : 1 ≤ a = omega arith in g), (let g : b ≡ 0 = omega arith in g))
+
+pub spent_is_out : (n : ℕ) (mine : List Entry) (e : Entry) → is_spend n e ≡ true → Outstanding (mine ++ e ∷ []) n → ⊥
+spent_is_out n mine e spend u = let t = one_more (is_spend n) mine e in let z : cond (is_spend n e) 1 0 ≡ 1 = ap (λ (b : Bool). cond b 1 0) spend in
+    let b : ℕ = times (is_spend n) mine in let y : ℕ = cond (is_spend n e) 1 0 in let b' : ℕ = times (is_spend n) (mine ++ e ∷ []) in let t' : b' ≡ b + y = t in let z' : y ≡ 1 = z in let q : b' ≡ 0 = u.1 in omega arith
+
+pub unfinished_stays : (n : ℕ) (mine : List Entry) (e : Entry) → is_finish n e ≡ false → Unfinished mine n → Unfinished (mine ++ e ∷ []) n
+unfinished_stays n mine e no_finish u = let s = one_more (is_start n) mine e in let t = one_more (is_finish n) mine e in let z : cond (is_finish n e) 1 0 ≡ 0 = ap (λ (b : Bool). cond b 1 0) no_finish in
+    let a : ℕ = times (is_start n) mine in let b : ℕ = times (is_finish n) mine in let x : ℕ = cond (is_start n e) 1 0 in let y : ℕ = cond (is_finish n e) 1 0 in
+    let a' : ℕ = times (is_start n) (mine ++ e ∷ []) in let b' : ℕ = times (is_finish n) (mine ++ e ∷ []) in let s' : a' ≡ a + x = s in let t' : b' ≡ b + y = t in let z' : y ≡ 0 = z in let p : 1 ≤ a = u.0 in let q : b ≡ 0 = u.1 in
+    ((let g : 1 ≤ a' = omega arith in g), (let g : b' ≡ 0 = omega arith in g))
+
+pub unfinished_was : (n : ℕ) (mine : List Entry) (e : Entry) → is_start n e ≡ false → Unfinished (mine ++ e ∷ []) n → Unfinished mine n
+unfinished_was n mine e no_start u = let s = one_more (is_start n) mine e in let t = one_more (is_finish n) mine e in let z : cond (is_start n e) 1 0 ≡ 0 = ap (λ (b : Bool). cond b 1 0) no_start in
+    let a : ℕ = times (is_start n) mine in let b : ℕ = times (is_finish n) mine in let x : ℕ = cond (is_start n e) 1 0 in let y : ℕ = cond (is_finish n e) 1 0 in
+    let a' : ℕ = times (is_start n) (mine ++ e ∷ []) in let b' : ℕ = times (is_finish n) (mine ++ e ∷ []) in let s' : a' ≡ a + x = s in let t' : b' ≡ b + y = t in let z' : x ≡ 0 = z in let p : 1 ≤ a' = u.0 in let q : b' ≡ 0 = u.1 in
+    ((let g : 1 ≤ a = omega arith in g), (let g : b ≡ 0 = omega arith in g))
+
+pub finished_is_out : (n : ℕ) (mine : List Entry) (e : Entry) → is_finish n e ≡ true → Unfinished (mine ++ e ∷ []) n → ⊥
+finished_is_out n mine e finish u = let t = one_more (is_finish n) mine e in let z : cond (is_finish n e) 1 0 ≡ 1 = ap (λ (b : Bool). cond b 1 0) finish in
+    let b : ℕ = times (is_finish n) mine in let y : ℕ = cond (is_finish n e) 1 0 in let b' : ℕ = times (is_finish n) (mine ++ e ∷ []) in let t' : b' ≡ b + y = t in let z' : y ≡ 1 = z in let q : b' ≡ 0 = u.1 in omega arith
+
+-- a request that is outstanding stays so, where the caller's entry doesn't spend it
+pub still_outstanding : (c n : ℕ) (es : List Entry) (e : Entry) → e.caller ≡ c → is_spend n e ≡ false → Outstanding (of_caller c es) n → Outstanding (of_caller c (es ++ e ∷ [])) n
+still_outstanding c n es e is no_spend u = subst (λ (m : List Entry). Outstanding m n) (sym (mine_last c es e is)) (outstanding_stays n (of_caller c es) e no_spend u)

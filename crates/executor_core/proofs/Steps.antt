@@ -16,12 +16,12 @@ use Rattle.executor_core.specs.Histories.{submits, starts, finishes, spends, wai
 use Rattle.executor_core.proofs.Moves.{Shift, Starts, Stops, Finishes, Withdraws, Asks, Collects, Move, Submits, Sets, Closes}
 
 module _ {A : Type 0} where
-  get_here : (xs : List A) (i : ℕ) (a x : A) → slice_get xs i ≡ Some a → slice_get (set xs i x) i ≡ Some x
+  pub get_here : (xs : List A) (i : ℕ) (a x : A) → slice_get xs i ≡ Some a → slice_get (set xs i x) i ≡ Some x
   get_here [] i a x e = absurd cc
   get_here (y ∷ ys) zero a x e = refl
   get_here (y ∷ ys) (suc i) a x e = get_here ys i a x e
 
-  get_else : (xs : List A) (i k : ℕ) (x : A) → k ≢ i → slice_get (set xs i x) k ≡ slice_get xs k
+  pub get_else : (xs : List A) (i k : ℕ) (x : A) → k ≢ i → slice_get (set xs i x) k ≡ slice_get xs k
   get_else [] i k x ne = refl
   get_else (y ∷ ys) zero zero x ne = absurd (ne refl)
   get_else (y ∷ ys) zero (suc k) x ne = refl
@@ -35,7 +35,7 @@ module _ {A : Type 0} where
   get_snoc (x ∷ xs) a zero = inr refl
   get_snoc (x ∷ xs) a (suc k) = ⊎_elim (λ h. inl (ap suc h.0, h.1, h.2)) (λ h. inr h) (get_snoc xs a k)
 
-  past : (xs : List A) (a : A) (k : ℕ) → k ≡ length xs → slice_get (xs ++ a ∷ []) k ≡ slice_get xs k → ⊥
+  pub past : (xs : List A) (a : A) (k : ℕ) → k ≡ length xs → slice_get (xs ++ a ∷ []) k ≡ slice_get xs k → ⊥
   past [] a zero e h = cc
   past [] a (suc k) e h = omega arith
   past (x ∷ xs) a zero e h = omega arith

@@ -50,6 +50,13 @@ impl Board {
         })
     }
 
+    /// How many requests it takes in all.
+    pub fn limit(&self) -> u32
+        ensures { result ≡ self.now.limit }
+    {
+        self.limit
+    }
+
     /// What the call answers, and what it changes. No call takes memory.
     pub fn act(&mut self, caller: u32, call: Call) -> Reply
         requires { MayAct self.old caller call }
