@@ -33,6 +33,3 @@ pub enum Phase {
     /// The octets begin no body, or memory ran out.
     Over,
 }
-
-#[cfg(test)]
-mod tests;
