@@ -21,14 +21,14 @@ pub disarmed_more : (ns : List ℕ) (n : ℕ) (q : Events) → each_disarmed (ns
 disarmed_more [] n q = refl
 disarmed_more (m ∷ ns) n q = disarmed_more ns n (disarmed m q)
 
-frees_more : (ns : List ℕ) (n : ℕ) → map Free (ns ++ n ∷ []) ≡ map Free ns ++ Free n ∷ []
+pub frees_more : (ns : List ℕ) (n : ℕ) → map Free (ns ++ n ∷ []) ≡ map Free ns ++ Free n ∷ []
 frees_more [] n = refl
 frees_more (m ∷ ns) n = ap (λ (l : List Item). Free m ∷ l) (frees_more ns n)
 
-reverse_more : (xs : List ℕ) (n : ℕ) → reverse (xs ++ n ∷ []) ≡ n ∷ reverse xs
+pub reverse_more : (xs : List ℕ) (n : ℕ) → reverse (xs ++ n ∷ []) ≡ n ∷ reverse xs
 reverse_more xs n = reverse-append xs (n ∷ [])
 
-pub falling_on : (n : ℕ) (ns : List ℕ) (old now popped new : Engine) (before mid after : Option (List Item))
+unfoldable pub falling_on : (n : ℕ) (ns : List ℕ) (old now popped new : Engine) (before mid after : Option (List Item))
     → Falling ns old now before mid
     → now.path.items ≡ popped.path.items ++ n ∷ []
     → popped ≡ record now { path = popped.path }

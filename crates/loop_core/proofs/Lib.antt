@@ -18,3 +18,4 @@ pub mod Rises
 pub mod Tasks
 pub mod Rounds
 pub mod Fresh
+pub mod Paths

@@ -11,3 +11,4 @@ pub mod Full
 pub mod Gives
 pub mod Turns
 pub mod Loops
+pub mod Closing

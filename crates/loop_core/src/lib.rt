@@ -1,6 +1,7 @@
 //! The event loop over plain vectors: commands, turns and the closing, each as the definitions of kj_model say.
 #![tactic(auto)]
 
+mod closing;
 mod commands;
 mod engine;
 mod evaluate;

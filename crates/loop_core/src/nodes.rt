@@ -114,7 +114,7 @@ fn owner_of(nodes: &Vec<Node>, n: u64) -> Option<Node>
     None
 }
 
-fn has_event(form: Form) -> bool
+pub(crate) fn has_event(form: Form) -> bool
     ensures { result ≡ is_event form }
 {
     match form {
