@@ -19,3 +19,4 @@ pub mod Tasks
 pub mod Rounds
 pub mod Fresh
 pub mod Paths
+pub mod Closes

@@ -112,7 +112,7 @@ closes_on n ns old now popped new start freed more before mid after c top same n
       listed = listed ∙ ap (λ (l : List NodeId). l ++ node_id n ∷ []) c.listed ∙ append_assoc start (map node_id c.falling.done) (node_id n ∷ []) ∙ ap (λ (l : List NodeId). start ++ l) (sym (map-append node_id c.falling.done (n ∷ [])));
       descends = subst Descends (sym left) last.1;
       live = subst (λ (l : List ℕ). AreLive l new.nodes.items) (sym left) (subst (λ (l : List Node). AreLive popped.path.items l) (sym gone)
-        (still_live n now.nodes.items popped.path.items last.0 (all_front (λ (m : ℕ). is_live m now.nodes.items ≡ true) popped.path.items (n ∷ []) live)));
+          (still_live n now.nodes.items popped.path.items last.0 (all_front (λ (m : ℕ). is_live m now.nodes.items ≡ true) popped.path.items (n ∷ []) live)));
       few = record { few = let few = c.few.few in omega (arith, few, less, ap length gone, ap length listed, length-append freed (node_id n ∷ [])) };
     }
 

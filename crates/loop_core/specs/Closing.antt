@@ -1,10 +1,11 @@
 -- The closing of a loop.
-use Rattle.std.specs.Prelude.{◌≡◌, ◌≤◌, ◌<◌, ◌+◌, ℕ, List, [], ◌∷◌, ◌++◌, Option, map, reverse, drop, length, vec_capacity}
+use Rattle.std.specs.Prelude.{if◌then◌else◌, ◌≡◌, ◌≤◌, ◌<◌, ◌+◌, ℕ, List, [], ◌∷◌, ◌++◌, Option, map, reverse, drop, length, vec_capacity}
 use Rattle.kj_base.specs.Record.{Item, Free, Tells}
 use Rattle.kj_base.specs.declared.numbers.NodeId.{NodeId}
 use Rattle.loop_core.specs.declared.engine.Engine.{Engine}
 use Rattle.loop_core.specs.declared.nodes.Node.{Node}
 use Rattle.loop_core.specs.declared.names.Named.{Named}
+use Rattle.loop_core.specs.Nodes.{is_event}
 use Rattle.loop_core.specs.Walks.{tree_path}
 use Rattle.loop_core.specs.Engine.{each_without, tasks_of}
 use Rattle.std.specs.List.{AllByRecursion}
@@ -57,3 +58,12 @@ pub record ClosesTree (ns : List ℕ) (old new : Engine) (start freed : List Nod
   pub descends : Descends new.path.items
   pub live : AreLive new.path.items new.nodes.items
   pub few : HasFreed old.limits.slots new.nodes.items freed
+
+-- a node's number, where it is a Task
+abbrev pub task_number : Node → List ℕ
+task_number node = if is_event node.form then node.number ∷ [] else []
+
+-- all of these trees went
+pub record Closed (ns : List ℕ) (freed : List NodeId) (before after : Option (List Item)) : Type 0 where
+  pub listed : freed ≡ map node_id ns
+  pub told : Tells before (map Free ns) after

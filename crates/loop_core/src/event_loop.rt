@@ -1,10 +1,15 @@
 //! The loop as a host sees it.
-ghost use Rattle.std.specs.Prelude.{◌≡◌, ◌≤◌, ◌%◌, IfOk, false};
+ghost use Rattle.std.specs.Prelude.{◌≡◌, ◌≤◌, ◌%◌, ◌++◌, List, IfOk, false};
 ghost use Rattle.kj_base.specs.Commands.{command_of};
-ghost use Rattle.kj_model.specs.World.{new_world};
+ghost use Rattle.kj_base.specs.Record.{Item, Tells};
+ghost use Rattle.kj_model.specs.World.{new_world, State};
+ghost use Rattle.kj_model.specs.Calls.{close};
 ghost use Rattle.loop_core.specs.Applied.{IsApplied, refusal_in};
 ghost use Rattle.loop_core.specs.Turns.{Turns};
+ghost use Rattle.loop_core.specs.Seen.{Seen};
+ghost use Rattle.loop_core.specs.Closing.{frees_of};
 
+use crate::closing::close;
 use crate::commands::apply_command;
 use crate::engine::Engine;
 use crate::fire::turn;
@@ -18,6 +23,9 @@ use std::marker::Model;
 #[derive(Drop)]
 pub struct Loop {
     engine: Engine,
+    /// Room for the roots that the closing frees.
+    roots: Vec<u64>,
+    /// Room for the nodes that the closing frees.
     freed: Vec<NodeId>,
 }
 
@@ -61,6 +69,7 @@ impl Loop {
                 path: Vec::with_capacity(alloc, slots + 1)?,
                 frames: Vec::with_capacity(alloc, slots + 1)?,
             },
+            roots: Vec::with_capacity(alloc, slots + limits.names as usize)?,
             freed: Vec::with_capacity(alloc, slots)?,
         })
     }
@@ -80,5 +89,19 @@ impl Loop {
         ensures { Turns self.old self.new (S.told steps.old) (S.told steps.new) result }
     {
         turn(&mut self.engine, steps)
+    }
+
+    /// Everything goes; the answer is the nodes in the order in which they were freed. Takes no memory.
+    pub fn close<S: Steps>(self, steps: &mut S) -> Vec<NodeId>
+        ensures told { Tells (S.told steps.old) (frees_of result.items) (S.told steps.new) }
+        ensures closed { (t : List Item) (s : State) → Seen self t s → (close s).past ≡ t ++ frees_of result.items }
+    {
+        let Loop {
+            mut engine,
+            mut roots,
+            mut freed,
+        } = self;
+        close(&mut engine, &mut roots, steps, &mut freed);
+        freed
     }
 }

@@ -10,6 +10,8 @@ mod fire;
 mod names;
 mod nodes;
 mod order;
+#[cfg(test)]
+mod tests;
 mod turned;
 mod walk;
 

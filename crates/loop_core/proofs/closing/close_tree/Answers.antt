@@ -10,28 +10,28 @@ falling-init g c =
     let room = kept.room in
     record {
       closes = closes_from (old.limits.slots + 1) c.args.root old (record old { path = c.go_down.new.path }) c.args.freed.now.items _ kept
-        (record {
-          room = record {
-            slots = room.slots;
-            names = room.names;
-            of_events = room.of_events;
-            of_nodes = room.of_nodes;
-            of_names = room.of_names;
-            of_path = omega (arith, c.go_down.ensures.capacity, room.of_path);
-            of_frames = room.of_frames;
-          };
-          few_nodes = kept.few_nodes;
-          few_names = kept.few_names;
-          next = kept.next;
-          queue = kept.queue;
-          live = kept.live;
-          built = kept.built;
-          trees = kept.trees;
-          roots = kept.roots;
-        })
-        refl
-        (c.go_down.ensures.path ∙ ap (λ k. tree_path k c.args.root old.nodes.items) c.depth-depth.ensures)
-        c.requires.few;
+          (record {
+            room = record {
+              slots = room.slots;
+              names = room.names;
+              of_events = room.of_events;
+              of_nodes = room.of_nodes;
+              of_names = room.of_names;
+              of_path = omega (arith, c.go_down.ensures.capacity, room.of_path);
+              of_frames = room.of_frames;
+            };
+            few_nodes = kept.few_nodes;
+            few_names = kept.few_names;
+            next = kept.next;
+            queue = kept.queue;
+            live = kept.live;
+            built = kept.built;
+            trees = kept.trees;
+            roots = kept.roots;
+          })
+          refl
+          (c.go_down.ensures.path ∙ ap (λ k. tree_path k c.args.root old.nodes.items) c.depth-depth.ensures)
+          c.requires.few;
       room = omega arith;
     }
 
@@ -45,6 +45,6 @@ falling-preserved g c =
     let done = c.drop_node.ensures in
     record {
       closes = closes_on c.in-Some.n _ c.args.engine.now c.falling.engine (record c.falling.engine { path = c.pop.new.self }) c.drop_node.new.engine _ c.falling.freed.items c.put_last.new.items.items _ _ _
-        c.falling.invariant.closes c.in-Some.ensures.items refl done.nodes done.queue done.others done.path done.kept done.told c.put_last.ensures.items;
+          c.falling.invariant.closes c.in-Some.ensures.items refl done.nodes done.queue done.others done.path done.kept done.told c.put_last.ensures.items;
       room = omega (arith, c.put_last.ensures.capacity, c.falling.invariant.room);
     }

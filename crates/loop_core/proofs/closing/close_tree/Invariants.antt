@@ -9,7 +9,7 @@ invariant-falling g l =
     let old = l.fn.engine in
     record {
       closes : ClosesTree (reverse (tree_path (old.limits.slots + 1) l.fn.root old.nodes.items)) old l.engine l.fn.freed.items l.freed.items (g.S.Steps.told l.fn.steps) (g.S.Steps.told l.steps);
-      room : vec_capacity l.fn.freed ≤ vec_capacity l.freed
+      room : vec_capacity l.fn.freed ≤ vec_capacity l.freed;
     }
 
 abbrev pub decreases-falling : goal.decreases-falling

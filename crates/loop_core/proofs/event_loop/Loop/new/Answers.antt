@@ -10,7 +10,8 @@ invariant_of-result c =
     let names = c.in_ok-with_capacity-3.ensures in
     let path = c.in_ok-with_capacity-4.ensures in
     let frames = c.in_ok-with_capacity-5.ensures in
-    let freed = c.in_ok-with_capacity-6.ensures in
+    let roots = c.in_ok-with_capacity-6.ensures in
+    let freed = c.in_ok-with_capacity-7.ensures in
     record {
       kept = fresh_kept _
           (record {
@@ -25,4 +26,6 @@ invariant_of-result c =
           nodes.items names.items (ap (λ l. record { list = l; depth = 0; breadth = 0 }) events.items) events.items refl;
       none_freed = freed.items;
       room = omega (arith, freed.exact);
+      no_roots = roots.items;
+      roots = omega (arith, roots.exact);
     }
