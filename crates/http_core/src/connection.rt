@@ -155,6 +155,7 @@ impl<S: Service> Connection<S> {
         ensures says { result ≡ fed_of (state_of self.new) }
         ensures served { (fed taken : List ℕ) → IsServed S.told self.old fed taken → IsServed S.told self.new (fed_with (state_of self.old) fed piece.now) taken }
         ensures stays { state_of self.old ≢ State.Going → self.new ≡ self.old }
+        ensures undrained { state_of self.old ≢ State.Drained → state_of self.new ≢ State.Drained }
     {
         match self.state {
             State::Broken => return Err(NoMemory),

@@ -1,6 +1,5 @@
 //! Sources and sinks over the system's readers and writers: the trusted edge, which tells no octets.
-ghost use Rattle.std.specs.Prelude.{◌≡◌, ◌≤◌, length, None, IfOk, IsErr};
-ghost use Rattle.kj_io.specs.Causes.{HasCause};
+ghost use Rattle.std.specs.Prelude.{None};
 
 use crate::fault::Failed;
 use crate::sink::Sink;
@@ -9,13 +8,18 @@ use std::io;
 
 /// A reader of the system with a count of faults.
 #[derive(Drop)]
-pub struct StdSource<R: io::Read + Drop> {
+pub struct StdSource<R> {
     reader: R,
     faults: u64,
 }
 
 impl<R: io::Read + Drop> StdSource<R> {
-    pub fn new(reader: R) -> StdSource<R> {
+    ghost use Rattle.std.specs.Prelude.{◌≡◌};
+    ghost use Rattle.kj_io.specs.Standard.{source_faults};
+
+    pub fn new(reader: R) -> StdSource<R>
+        ensures { source_faults result ≡ 0 }
+    {
         StdSource { reader, faults: 0 }
     }
 }
@@ -42,13 +46,19 @@ impl<R: io::Read + Drop> Source for StdSource<R> {
 
 /// A writer of the system with a count of faults. It keeps no octets back: a flush that fails is a fault.
 #[derive(Drop)]
-pub struct StdSink<W: io::Write + Drop> {
+pub struct StdSink<W> {
     writer: W,
     faults: u64,
 }
 
 impl<W: io::Write + Drop> StdSink<W> {
-    pub fn new(writer: W) -> StdSink<W> {
+    ghost use Rattle.std.specs.Prelude.{◌≡◌, ◌≤◌, length, IfOk, IsErr};
+    ghost use Rattle.kj_io.specs.Causes.{HasCause};
+    ghost use Rattle.kj_io.specs.Standard.{sink_faults};
+
+    pub fn new(writer: W) -> StdSink<W>
+        ensures { sink_faults result ≡ 0 }
+    {
         StdSink { writer, faults: 0 }
     }
 

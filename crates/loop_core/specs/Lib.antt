@@ -11,4 +11,5 @@ pub mod Full
 pub mod Gives
 pub mod Turns
 pub mod Loops
+pub mod Quiet
 pub mod Closing

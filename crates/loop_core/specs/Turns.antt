@@ -28,6 +28,13 @@ lacked_memory IdleCase = false
 lacked_memory NoMemoryCase = true
 lacked_memory StoppedCase = false
 
+-- whether the loop is stopped after it
+abbrev pub is_stopped : TurnedCase → Bool
+is_stopped FiredCase = false
+is_stopped IdleCase = false
+is_stopped NoMemoryCase = true
+is_stopped StoppedCase = true
+
 -- the code did what the definition does, and told just the items that the definition adds; a step found no memory after them, or none did
 pub record Does (f : Setting → State → State) (old new : World) (before after : Option (List Item)) (lacked : Bool) : Type 0 where
   pub items : List Item

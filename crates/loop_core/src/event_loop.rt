@@ -5,9 +5,10 @@ ghost use Rattle.kj_base.specs.Record.{Item, Tells};
 ghost use Rattle.kj_model.specs.World.{new_world, State};
 ghost use Rattle.kj_model.specs.Calls.{close};
 ghost use Rattle.loop_core.specs.Applied.{IsApplied, refusal_in};
-ghost use Rattle.loop_core.specs.Turns.{Turns};
-ghost use Rattle.loop_core.specs.Seen.{Seen};
 ghost use Rattle.loop_core.specs.Closing.{frees_of};
+ghost use Rattle.loop_core.specs.Quiet.{IsQuiet};
+ghost use Rattle.loop_core.specs.Seen.{Seen};
+ghost use Rattle.loop_core.specs.Turns.{Turns, is_stopped};
 
 use crate::closing::close;
 use crate::commands::apply_command;
@@ -80,13 +81,16 @@ impl Loop {
         ensures applied { IsApplied (command_of command) self.old self.new (refusal_in result) }
         ensures told { S.told _steps.new ≡ S.told _steps.old }
         ensures running { self.new.stopped ≡ false }
+        ensures quiet { IsQuiet self.new }
     {
         apply_command(&mut self.engine, &command)
     }
 
     /// The event that waits longest fires (kj/async.h, `EventLoop::turn`).
     pub fn turn<S: Steps>(&mut self, steps: &mut S) -> Turned
-        ensures { Turns self.old self.new (S.told steps.old) (S.told steps.new) result }
+        ensures turns { Turns self.old self.new (S.told steps.old) (S.told steps.new) result }
+        ensures stopped { self.new.stopped ≡ is_stopped result }
+        ensures quiet { IsQuiet self.new }
     {
         turn(&mut self.engine, steps)
     }

@@ -7,7 +7,7 @@ ghost use Rattle.loop_core.specs.Nodes.{node_found};
 ghost use Rattle.loop_core.specs.Walks.{task_in};
 ghost use Rattle.loop_core.specs.Engine.{world_of, SameFixed};
 ghost use Rattle.loop_core.specs.Kept.{IsKept, RootFits};
-ghost use Rattle.loop_core.specs.Turns.{Does, Turns, valued_task};
+ghost use Rattle.loop_core.specs.Turns.{Does, Turns, is_stopped, valued_task};
 
 use crate::engine::{Engine, drop_node, free_tree};
 use crate::evaluate::evaluate;
@@ -74,6 +74,7 @@ fn fire<S: Steps>(engine: &mut Engine, n: u64, steps: &mut S)
 pub(crate) fn turn<S: Steps>(engine: &mut Engine, steps: &mut S) -> Turned
     requires kept { IsKept engine.old }
     ensures turns { Turns (world_of engine.old) (world_of engine.new) (S.told steps.old) (S.told steps.new) result }
+    ensures stopped { engine.new.stopped ≡ is_stopped result }
     ensures limits { engine.new.limits ≡ engine.old.limits }
     ensures kept { IsKept engine.new }
 {
