@@ -33,3 +33,6 @@ pub enum Phase {
     /// The octets begin no body, or memory ran out.
     Over,
 }
+
+#[cfg(test)]
+mod tests;
