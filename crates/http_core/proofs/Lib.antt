@@ -4,3 +4,4 @@ pub mod RequestLemmas
 pub mod ReadLemmas
 pub mod ServeLemmas
 pub mod ConnectionLemmas
+pub mod UniqueLemmas

@@ -2,6 +2,7 @@
 #![tactic(auto)]
 
 mod connection;
+mod laws;
 mod message;
 mod read;
 mod service;
@@ -10,5 +11,6 @@ mod tests;
 mod text;
 
 pub use connection::{Connection, Fed, State};
+pub use laws::{one_output, one_reading};
 pub use message::{Answer, End, Request};
 pub use service::{Echo, Service, Target};
