@@ -1,0 +1,215 @@
+//! What lies behind the lock of an executor.
+ghost use Rattle.std.specs.Prelude.{◌≡◌, ◌+◌, ◌≤◌, ◌≢◌, ℕ, [], ◌∷◌, ◌++◌, length, true, false, IfOk, IfErr, IfSome, IfNone};
+ghost use Rattle.std.specs.Bool.{OnTrue, OnFalse};
+ghost use Rattle.executor_core.specs.declared.call.Call.TheVariants.{Submit, Next, Finish, Cancel, Collect, Close};
+ghost use Rattle.executor_core.specs.declared.call.Reply.TheVariants.{Done};
+ghost use Rattle.executor_core.specs.Acts.{act, refusal_reply};
+ghost use Rattle.executor_core.specs.Histories.{entry, board_of, of_caller, Outstanding, Unfinished, AllFinished, Legal};
+ghost use Rattle.xthread.specs.Stock.{Book, book, Grown, Sound};
+ghost use Rattle.xthread.specs.Answers.{request, board, Unchanged, NextTells, CancelTells, CollectTells};
+
+use crate::answers::{Cancelled, Collected, Next};
+use crate::place::Place;
+use crate::stock::{take_back, take_payload};
+use crate::ticket::Ticket;
+use count_lock::Kept;
+use executor_core::{Board, Call, Cancelling, Chosen, Entries, Entry, NotTaken, Reply};
+use kj_base::{NoMemory, Outcome, Sent, StepId, Words};
+use std::alloc::Global;
+use std::marker::Model;
+
+/// A board, its history, and what belongs to each request. Contracts see the limit and the history.
+#[derive(Drop)]
+pub struct Guarded<P: Sent, R: Send> {
+    board: Board,
+    log: Vec<Entry>,
+    places: Vec<Place<P, R>>,
+}
+
+impl<P: Sent, R: Send> Model for Guarded<P, R> {
+    ghost use Rattle.std.specs.Prelude.{vec_capacity};
+    ghost use Rattle.xthread.specs.Stock.{Book, book, Whole};
+
+    ghost Value = { Book };
+
+    ghost view = { λ g. book g.board.limit g.log.items };
+
+    ghost invariant = { λ g. Whole P.fits g.board g.log.items (vec_capacity g.log) g.places.items (vec_capacity g.places) };
+}
+
+impl<P: Sent, R: Send> Kept for Guarded<P, R> {
+    type Entry = Entry;
+
+    ghost entries = { λ g. g.entries };
+
+    ghost by = { λ e. e.caller };
+
+    ghost constant = { λ g. g.limit };
+
+    fn constant(&self) -> u64 {
+        self.board.limit() as u64
+    }
+}
+
+impl<P: Sent + Drop, R: Send + Drop> Guarded<P, R> {
+    /// Nothing was submitted. Makes the room for all that may follow: six entries for each request and one more.
+    pub(crate) fn new(alloc: Global, requests: u32) -> Result<Guarded<P, R>, NoMemory>
+        requires { (1 ≤ requests) × (requests ≤ 1048576) }
+        ensures { IfOk result (λ g. g ≡ book requests []) }
+    {
+        let entries = 6 * requests as usize + 1;
+        Ok(Guarded {
+            board: Board::new(alloc, requests)?,
+            log: Vec::with_capacity(alloc, entries)?,
+            places: Vec::with_capacity(alloc, requests as usize)?,
+        })
+    }
+
+    pub(crate) fn into_entries(self) -> Entries
+        ensures entries { result ≡ self.entries }
+        ensures legal { Legal self.limit result }
+    {
+        Entries::from_vec(self.log)
+    }
+
+    pub(crate) fn submit(
+        &mut self,
+        caller: u32,
+        step: StepId,
+        words: Words,
+        payload: P,
+    ) -> Result<u32, (NotTaken, P)>
+        requires { P.fits payload step.0 words }
+        ensures sound { Sound self.new }
+        ensures ok { IfOk result (λ r. Grown self.old self.new (entry caller (Submit step words) (Reply.Ticket r)) × Outstanding (of_caller caller self.new.entries) r) }
+        ensures err { IfErr result (λ e. (self.new ≡ self.old) × (e.1 ≡ payload) × ((act (board_of self.old.limit self.old.entries) caller (Submit step words)).1 ≡ refusal_reply e.0)) }
+    {
+        match self.board.submit(caller, step, words.copy()) {
+            Ok(request) => {
+                self.log.push_reserved(Entry {
+                    caller,
+                    call: Call::Submit { step, words },
+                    reply: Reply::Ticket(request),
+                });
+                self.places.push_reserved(Place::Waiting(payload));
+                Ok(request)
+            }
+            Err(refused) => Err((refused, payload)),
+        }
+    }
+
+    pub(crate) fn next(&mut self) -> Next<P>
+        ensures sound { Sound self.new }
+        ensures told { NextTells P.fits (Grown self.old self.new) (Unchanged self.old self.new 0) (of_caller 0 self.new.entries) result }
+    {
+        match self.board.next() {
+            Chosen::Start {
+                request,
+                step,
+                words,
+            } => {
+                let payload = take_payload(&mut self.places, request);
+                self.log.push_reserved(Entry {
+                    caller: 0,
+                    call: Call::Next,
+                    reply: Reply::Start {
+                        request,
+                        step,
+                        words: words.copy(),
+                    },
+                });
+                Next::Start(request, step, words, payload)
+            }
+            Chosen::Stop(request) => {
+                self.log.push_reserved(Entry {
+                    caller: 0,
+                    call: Call::Next,
+                    reply: Reply::Stop(request),
+                });
+                Next::Stop(request)
+            }
+            Chosen::Empty => Next::Empty,
+        }
+    }
+
+    pub(crate) fn finish(&mut self, request: u32, outcome: Outcome, given: R)
+        requires { Unfinished (of_caller 0 self.old.entries) request }
+        ensures sound { Sound self.new }
+        ensures told { Grown self.old self.new (entry 0 (Finish request outcome) Done) }
+    {
+        self.board.finish(request, outcome.copy());
+        self.places[request as usize] = Place::Finished(given);
+        self.log.push_reserved(Entry {
+            caller: 0,
+            call: Call::Finish { request, outcome },
+            reply: Reply::Done,
+        });
+    }
+
+    pub(crate) fn cancel(&mut self, caller: u32, ticket: Ticket) -> Cancelled<P>
+        requires { Outstanding (of_caller caller self.old.entries) (request ticket) }
+        ensures sound { Sound self.new }
+        ensures told { CancelTells P.fits (Grown self.old self.new) (Unchanged self.old self.new caller) (of_caller caller self.new.entries) (board self.new) caller (request ticket) result }
+    {
+        let Ticket { request } = ticket;
+        match self.board.cancel(request) {
+            Cancelling::Withdrawn => {
+                let payload = take_payload(&mut self.places, request);
+                self.log.push_reserved(Entry {
+                    caller,
+                    call: Call::Cancel { request },
+                    reply: Reply::Withdrawn,
+                });
+                Cancelled::Withdrawn(payload)
+            }
+            Cancelling::Asked => {
+                self.log.push_reserved(Entry {
+                    caller,
+                    call: Call::Cancel { request },
+                    reply: Reply::Asked,
+                });
+                Cancelled::Asked(Ticket { request })
+            }
+            Cancelling::TooLate => Cancelled::TooLate(Ticket { request }),
+        }
+    }
+
+    pub(crate) fn collect(&mut self, caller: u32, ticket: Ticket) -> Collected<P, R>
+        requires { Outstanding (of_caller caller self.old.entries) (request ticket) }
+        ensures sound { Sound self.new }
+        ensures told { CollectTells P.fits (Grown self.old self.new) (Unchanged self.old self.new caller) (of_caller caller self.new.entries) (board self.new) caller (request ticket) result }
+    {
+        let Ticket { request } = ticket;
+        match self.board.collect(request) {
+            Some(outcome) => {
+                let back = take_back(&mut self.places, request);
+                self.log.push_reserved(Entry {
+                    caller,
+                    call: Call::Collect { request },
+                    reply: Reply::Ended(outcome.copy()),
+                });
+                Collected::Ended(outcome, back)
+            }
+            None => Collected::NotYet(Ticket { request }),
+        }
+    }
+
+    /// True where the executor was open.
+    pub(crate) fn close(&mut self) -> bool
+        requires { AllFinished (of_caller 0 self.old.entries) }
+        ensures sound { Sound self.new }
+        ensures closed { (board self.new).closed ≡ true }
+        ensures opened { OnTrue result (Grown self.old self.new (entry 0 Close Done)) }
+        ensures again { OnFalse result (Unchanged self.old self.new 0 Close Done) }
+    {
+        if !self.board.close() {
+            return false;
+        }
+        self.log.push_reserved(Entry {
+            caller: 0,
+            call: Call::Close,
+            reply: Reply::Done,
+        });
+        true
+    }
+}

@@ -1,0 +1,20 @@
+//! An executor: calls between loops that can be cancelled safely, each a call of one board, in one history.
+//!
+//! Every caller has a pass. The pass with number 0 is the target's, which runs the requests; the others submit,
+//! cancel and collect. Payloads and results move with the requests.
+#![tactic(auto)]
+
+mod answers;
+mod calls;
+mod executor;
+mod guarded;
+mod place;
+mod sharing;
+mod stock;
+mod target;
+mod ticket;
+
+pub use answers::{Back, Cancelled, Collected, Next};
+pub use executor::{Executor, ExecutorPass};
+pub use guarded::Guarded;
+pub use ticket::Ticket;
