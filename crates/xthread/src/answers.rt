@@ -3,6 +3,7 @@ use crate::ticket::Ticket;
 use kj_base::{Outcome, StepId, Words};
 
 /// What the target is to do next.
+#[derive(Drop)]
 pub enum Next<P> {
     /// This request is to run.
     Start(u32, StepId, Words, P),
@@ -23,6 +24,7 @@ pub enum Cancelled<P> {
 }
 
 /// What a request that has ended gives back.
+#[derive(Drop)]
 pub enum Back<P, R> {
     /// The payload of a request that never started, since the executor was closed.
     Unstarted(P),

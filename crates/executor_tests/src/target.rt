@@ -1,0 +1,59 @@
+//! A target that runs one request at a time.
+ghost use Rattle.std.specs.Prelude.{◌≡◌};
+ghost use Rattle.count_lock.specs.Passes.{mine, number, IsPassOf, IsResting, IsSamePass};
+ghost use Rattle.executor_core.specs.Histories.{AllFinished};
+ghost use Rattle.xthread.specs.Told.{IsLegal};
+
+use crate::item::Item;
+use kj_base::Outcome;
+use std::sync::Wait;
+use std::sync::atomic::{AtomicU32, Ordering};
+use std::thread;
+use xthread::{Executor, ExecutorPass, Next};
+
+/// Starts a request and finishes it with the words that it came with. False where there was nothing to do.
+pub fn serve_once<W: Wait>(
+    rt: &W,
+    executor: &Executor<Item, u64>,
+    pass: &mut ExecutorPass<Item, u64>,
+) -> bool
+    requires pass { IsPassOf executor.now.lock pass.old × IsResting pass.old × IsLegal pass.old }
+    requires target { number pass.old ≡ 0 }
+    requires finished { AllFinished (mine pass.old) }
+    ensures pass { IsSamePass pass.old pass.new × IsResting pass.new × IsLegal pass.new }
+    ensures finished { AllFinished (mine pass.new) }
+{
+    match executor.next(rt, pass) {
+        Next::Start(request, _, words, item) => {
+            executor.finish(rt, pass, request, Outcome::Value(words), item.word);
+            true
+        }
+        Next::Stop(_) => true,
+        Next::Empty => false,
+    }
+}
+
+/// Serves until as many callers are done as there are, and closes the executor.
+pub fn serve<W: Wait>(
+    rt: &W,
+    executor: &Executor<Item, u64>,
+    pass: &mut ExecutorPass<Item, u64>,
+    done: &AtomicU32,
+    callers: u32,
+)
+    requires pass { IsPassOf executor.now.lock pass.old × IsResting pass.old × IsLegal pass.old }
+    requires target { number pass.old ≡ 0 }
+    requires finished { AllFinished (mine pass.old) }
+    ensures pass { IsSamePass pass.old pass.new × IsResting pass.new × IsLegal pass.new }
+{
+    for _ in rt.forever() {
+        let last = done.load(Ordering::SeqCst) >= callers;
+        if !serve_once(rt, executor, pass) {
+            if last {
+                break;
+            }
+            thread::yield_now();
+        }
+    }
+    executor.close(rt, pass);
+}
