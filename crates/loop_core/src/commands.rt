@@ -135,7 +135,8 @@ fn detach(engine: &mut Engine, source: Name) -> Result<(), Refused>
     }
     let tree = Some(root);
     build(engine, Form::Task { tree });
-    remove_name(&mut engine.names, source.0);
+    let name = source.0;
+    remove_name(&mut engine.names, name);
     listen(engine, root);
     Ok(())
 }

@@ -12,7 +12,7 @@ ghost use Rattle.loop_core.specs.Turns.{Does, Turns, is_stopped, valued_task};
 use crate::engine::{Engine, drop_node, free_tree};
 use crate::evaluate::evaluate;
 use crate::nodes::{Form, form_of};
-use crate::order::{rewind, take};
+use crate::order::{rewind, take_next};
 use crate::turned::Turned;
 use kj_base::Steps;
 
@@ -81,8 +81,7 @@ pub(crate) fn turn<S: Steps>(engine: &mut Engine, steps: &mut S) -> Turned
     if engine.stopped {
         return Turned::Stopped;
     }
-    rewind(&mut engine.order);
-    let Some(n) = take(&mut engine.order) else {
+    let Some(n) = take_next(&mut engine.order) else {
         return Turned::Idle;
     };
     fire(engine, n, steps);

@@ -74,7 +74,7 @@ pub(crate) fn disarm(order: &mut Order, event: u64)
     }
 }
 
-pub(crate) fn take(order: &mut Order) -> Option<u64>
+fn take(order: &mut Order) -> Option<u64>
     ensures head { result ≡ head_of (events_of order.old) }
     ensures events { events_of order.new ≡ taken (events_of order.old) }
     ensures capacity { vec_capacity order.new.events ≡ vec_capacity order.old.events }
@@ -90,4 +90,14 @@ pub(crate) fn rewind(order: &mut Order)
     ensures same { order.new.events ≡ order.old.events }
 {
     order.depth = 0;
+}
+
+/// The first point goes to the front, and the first event leaves the queue.
+pub(crate) fn take_next(order: &mut Order) -> Option<u64>
+    ensures head { result ≡ head_of (events_of order.old) }
+    ensures events { events_of order.new ≡ taken (rewound (events_of order.old)) }
+    ensures capacity { vec_capacity order.new.events ≡ vec_capacity order.old.events }
+{
+    rewind(order);
+    take(order)
 }
