@@ -1,0 +1,4 @@
+pub mod ScriptText
+pub mod Items
+pub mod Told
+pub mod Running
