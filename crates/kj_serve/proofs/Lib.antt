@@ -1,0 +1,5 @@
+pub mod Refused
+pub mod OneForm
+pub mod Listed
+pub mod BadRecord
+pub mod RepliesLemmas

@@ -1,0 +1,6 @@
+pub mod Ends
+pub mod Make
+pub mod Outside
+pub mod Replay
+pub mod Run
+pub mod Words

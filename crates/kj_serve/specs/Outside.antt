@@ -1,0 +1,35 @@
+-- What a command sees of the outside.
+use Rattle.std.specs.Prelude.{◌≡◌, ℕ, ◌≤◌, List, length, take, Option}
+use Rattle.std.specs.Io.KnownBytes.{Appends, Consumes, IsAtEnd}
+use Rattle.kj_io.specs.Causes.{Rose}
+use Rattle.kj_io.specs.Whole.{WroteFront}
+
+-- the octets left of an input and those taken by an output, where they tell, and their counts of faults
+pub record Outside : Type 0 where
+  pub left : Option (List ℕ)
+  pub reads : ℕ
+  pub taken : Option (List ℕ)
+  pub writes : ℕ
+
+-- no read and no write failed
+pub record NoFault (before after : Outside) : Type 0 where
+  pub reads : Rose before.reads after.reads → ⊥
+  pub writes : Rose before.writes after.writes → ⊥
+
+-- this text was written
+abbrev pub Wrote : Outside → Outside → List ℕ → Type 0
+Wrote before after text = Appends before.taken after.taken text
+
+-- a front of this text was written
+abbrev pub WroteFrontOf : Outside → Outside → List ℕ → Type 0
+WroteFrontOf before after text = WroteFront before.taken after.taken text
+
+-- nothing was written
+abbrev pub WroteNothing : Outside → Outside → Type 0
+WroteNothing before after = after.taken ≡ before.taken
+
+-- an input of at most 16,777,216 octets was read to its end
+pub record ReadWhole (before after : Outside) (input : List ℕ) : Type 0 where
+  pub read : Consumes before.left after.left input
+  pub at_end : IsAtEnd after.left
+  pub short : length input ≤ 16777216

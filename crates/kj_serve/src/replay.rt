@@ -1,0 +1,144 @@
+//! The command `replay`: recorded connections in, the replies to them out.
+ghost use Rattle.std.specs.Prelude.{◌≡◌, ◌⊎◌, IfOk, IfSome, false};
+ghost use Rattle.std.specs.Io.KnownBytes.{Appends};
+ghost use Rattle.kj_io.specs.Causes.{Rose};
+ghost use Rattle.kj_io.specs.Whole.{WroteFront};
+ghost use Rattle.http_core.specs.Replies.{IsReplies};
+ghost use Rattle.kj_serve.specs.Replay.{ReplayEnds, IsReplyText, whole_in, answers_of, bad_record};
+
+use crate::output::finish;
+use crate::status::{BAD_INPUT, NO_MEMORY, READ_FAILED, TOO_LONG, WRITE_FAILED};
+use conn_record::{RecordRefused, Replies, print_replies, read_records};
+use http_core::{Connection, Echo, Service, Target};
+use itoa::Buffer;
+use kj_base::{Bytes, NoMemory};
+use kj_io::{Failed, Read, Sink, Source, Spawner, read_whole, write_all};
+use std::alloc::Global;
+use std::sync::Wait;
+use std::thread::Threads;
+
+/// The most octets that an input may have.
+const LIMIT: usize = 16_777_216;
+
+/// The services of the program.
+#[derive(Clone, Copy, Debug, PartialEq, Eq)]
+pub enum ServiceName {
+    /// Answers with the request's body.
+    Echo,
+    /// Answers with the request's method and target.
+    Target,
+}
+
+/// Reads a recording and writes the replies to each of its connections, in order; gives the status. So far it serves
+/// on no loop and writes no trace.
+pub fn replay_command<R: Wait + Threads + Sync, I: Source, O: Sink, W: Spawner>(
+    _rt: &R,
+    alloc: Global,
+    _loops: u32,
+    service: ServiceName,
+    _trace: bool,
+    input: &mut I,
+    output: &mut O,
+    _spawner: &mut W,
+) -> u8
+    requires one_loop { _loops ≡ 1 }
+    requires no_trace { _trace ≡ false }
+    ensures { ReplayEnds (answers_of service) result (record { left = I.left input.old; reads = I.faults input.old; taken = O.taken output.old; writes = O.faults output.old }) (record { left = I.left input.new; reads = I.faults input.new; taken = O.taken output.new; writes = O.faults output.new }) }
+{
+    let octets = match read_whole(alloc, input, LIMIT) {
+        Read::Whole(octets) => octets,
+        Read::TooLong => return TOO_LONG,
+        Read::Failed => return READ_FAILED,
+        Read::NoMemory => return NO_MEMORY,
+    };
+    let records = match read_records(alloc, octets.as_slice()) {
+        Ok(records) => records,
+        Err(refused) => {
+            return match whole_in(refused) {
+                Some(whole) => refuse(alloc, whole, output),
+                None => NO_MEMORY,
+            };
+        }
+    };
+    match replies_of(alloc, service, records.as_slice()) {
+        Ok(text) => finish(output, text.as_slice()),
+        Err(NoMemory) => NO_MEMORY,
+    }
+}
+
+/// How many connections of a bad recording are whole.
+fn whole_in(refused: RecordRefused) -> Option<u32>
+    ensures { result ≡ whole_in refused }
+{
+    match refused {
+        RecordRefused::Bad { whole } => Some(whole),
+        RecordRefused::NoMemory => None,
+    }
+}
+
+/// The text of the replies to these connections.
+fn replies_of(alloc: Global, service: ServiceName, records: &[Bytes]) -> Result<Bytes, NoMemory>
+    ensures { IfOk result (IsReplyText (answers_of service) records.now) }
+{
+    match service {
+        ServiceName::Echo => serve_all(alloc, Echo, records),
+        ServiceName::Target => serve_all(alloc, Target, records),
+    }
+}
+
+fn serve_all<S: Service + Drop>(
+    alloc: Global,
+    mut service: S,
+    records: &[Bytes],
+) -> Result<Bytes, NoMemory>
+    ensures { IfSome S.told (λ f. IfOk result (IsReplyText f records.now)) }
+{
+    let mut replies = Replies::new(alloc);
+    for record in records {
+        let (written, back) = serve(alloc, service, record.as_slice())?;
+        service = back;
+        replies.push(written)?;
+    }
+    print_replies(alloc, &replies)
+}
+
+/// What is written to a connection that sends these octets, and the service again.
+fn serve<S: Service + Drop>(
+    alloc: Global,
+    service: S,
+    octets: &[u8],
+) -> Result<(Bytes, S), NoMemory>
+    ensures { IfSome S.told (λ f. IfOk result (λ r. IsReplies f octets.now r.0)) }
+{
+    let mut connection = Connection::new(alloc, service);
+    connection.feed(octets)?;
+    connection.end()?;
+    let written = connection.take_output();
+    Ok((written, connection.service()))
+}
+
+/// Writes how many connections of a bad recording are whole.
+fn refuse<O: Sink>(alloc: Global, whole: u32, output: &mut O) -> u8
+    ensures bad { result ≡ 1 → Appends (O.taken output.old) (O.taken output.new) (bad_record whole) }
+    ensures write_failed { result ≡ 4 → Rose (O.faults output.old) (O.faults output.new) × WroteFront (O.taken output.old) (O.taken output.new) (bad_record whole) }
+    ensures no_memory { result ≡ 5 → O.taken output.new ≡ O.taken output.old }
+    ensures statuses { (result ≡ 1) ⊎ (result ≡ 4) ⊎ (result ≡ 5) }
+{
+    let Ok(line) = bad_line(alloc, whole) else {
+        return NO_MEMORY;
+    };
+    match write_all(output, line.as_slice()) {
+        Ok(()) => BAD_INPUT,
+        Err(Failed) => WRITE_FAILED,
+    }
+}
+
+fn bad_line(alloc: Global, whole: u32) -> Result<Bytes, NoMemory>
+    ensures { IfOk result (λ line. line ≡ bad_record whole) }
+{
+    let mut buffer = Buffer::new();
+    let mut line = Bytes::from_slice(alloc, b"bad record ")?;
+    line.extend(buffer.format(whole).as_bytes())?;
+    line.push(b'\n')?;
+    Ok(line)
+}
