@@ -1,0 +1,31 @@
+#!/usr/bin/env bash
+# Times `replay 1 target` of the proved program on recordings of 1,000 to 100,000 requests, heads, bodies and replies
+# together. Prints seconds, microseconds a request, and how many times as long as copying the same octets it takes.
+set -eu
+top=$(cd "$(dirname "$0")/.." && pwd)
+program=$top/crates/kj_serve/out/kj_serve
+[ -x "$program" ] || { echo 'run rt ci first: nothing is proved here yet' >&2; exit 1; }
+work=$(mktemp -d)
+trap 'rm -rf "$work"' EXIT
+
+# nanoseconds of the best of three runs
+best() {
+  local least='' start took
+  for _ in 1 2 3; do
+    start=$(date +%s%N)
+    "$@" < "$work/recording" > "$work/replies"
+    took=$(($(date +%s%N) - start))
+    if [ -z "$least" ] || [ "$took" -lt "$least" ]; then least=$took; fi
+  done
+  echo "$least"
+}
+
+printf '%10s %10s %12s %14s %10s\n' requests octets seconds us/request to_copying
+for conns in 1 10 100; do
+  "$program" make 1 "$conns" 1000 > "$work/recording"
+  octets=$(wc -c < "$work/recording")
+  replay=$(best "$program" replay 1 target)
+  copy=$(best cat)
+  awk -v c="$conns" -v o="$octets" -v r="$replay" -v y="$copy" \
+    'BEGIN { printf "%10d %10d %12.4f %14.3f %10.1f\n", c * 1000, o, r / 1e9, r / 1e3 / (c * 1000), r / y }'
+done
