@@ -1,5 +1,5 @@
 -- Digits and the number that they write.
-use Rattle.std.proofs.Common.{◌≡◌, ℕ, zero, suc, ◌+◌, ◌-◌, ◌^◌, ◌<◌, ◌≤◌, min, true, List, [], ◌∷◌, length, get_or, ap, ◌∙◌, arith}
+use Rattle.std.proofs.Common.{◌≡◌, ℕ, zero, suc, ◌+◌, ◌-◌, ◌^◌, ◌<◌, ◌≤◌, min, true, List, [], ◌∷◌, length, get_or, ap, sym, ◌∙◌, arith}
 use Rattle.std.specs.Prelude.{decimal}
 use Rattle.std.specs.List.{prefix_len}
 use Rattle.std.specs.Char.{is_ascii_digit, digit_value}
@@ -33,3 +33,7 @@ decimal_is_digits word n fits text =
 -- the clipped value of a decimal text is its number
 pub value_is : (n v : ℕ) (digits : List ℕ) → n < 2 ^ 64 → digits ≡ decimal n → v ≡ min (digits_value 10 digits) (2 ^ 64 - 1) → v ≡ n
 value_is n v digits fits same value = omega (arith, value, ap (digits_value 10) same, (decimal_is_IsNumeral n fits).1)
+
+-- two numbers with one text are the same
+pub decimal_same : (m n : ℕ) → m < 2 ^ 64 → n < 2 ^ 64 → decimal m ≡ decimal n → m ≡ n
+decimal_same m n below under same = sym (decimal_is_IsNumeral m below).1 ∙ ap (digits_value 10) same ∙ (decimal_is_IsNumeral n under).1

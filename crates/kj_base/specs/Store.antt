@@ -1,6 +1,7 @@
 -- What is said of a store of nodes.
 use Rattle.std.specs.Prelude.{◌≡◌, ◌≢◌, ℕ, ◌-◌, ◌<◌, Bool, true, false, List, ◌∷◌, Option, None, Some, map, nat_lt, if◌then◌else◌, ◌==◌, ◌⊎◌}
 use Rattle.std.specs.List.{list_any, AllByRecursion}
+use Rattle.kj_base.specs.declared.nodes.Node.{Node}
 use Rattle.kj_base.specs.declared.nodes.Slot.{Slot}
 use Rattle.kj_base.specs.declared.nodes.Row.{Row as RowCase}
 use Rattle.kj_base.specs.Places.{Spot, Row, row}
@@ -31,6 +32,14 @@ IsCovered bare (Some slot) = bare slot ≡ false
 -- a new slot stands before that one, or before none
 abbrev pub StandsBefore : Option ℕ → Option ℕ → Type 0
 StandsBefore before stands = (stands ≡ None) ⊎ (stands ≡ before)
+
+-- another slot has the lower node, and the upper one stands before it, or before none
+abbrev pub HasLower : Node → (ℕ → Option Node) → (ℕ → Option ℕ) → ℕ → Type 0
+HasLower lower nodes stands upper = (slot : ℕ) × (slot ≢ upper) × (nodes slot ≡ Some lower) × StandsBefore (Some slot) (stands upper)
+
+-- each live slot has the node that it had
+abbrev pub KeepsLive : (ℕ → Option Node) → (ℕ → Option Node) → Type 0
+KeepsLive old new = (slot : ℕ) (node : Node) → old slot ≡ Some node → new slot ≡ Some node
 
 -- what is left of the rows when the first node of the first was placed in this slot
 abbrev pub rows_after : ℕ → ℕ → List Row → List Row

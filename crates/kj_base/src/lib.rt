@@ -23,7 +23,7 @@ pub use commands::Command;
 pub use memory::NoMemory;
 pub use nodes::{Form, Link, Node, Row, Slot};
 pub use numbers::{Limits, Name, NodeId, StepId};
-pub use numerals::read_decimal;
+pub use numerals::{is_word, read_decimal};
 pub use outcomes::{Exception, Kind, Outcome};
 pub use queue::{Queue, take_after_two_last};
 pub use refused::Refused;

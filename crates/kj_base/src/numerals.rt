@@ -1,10 +1,17 @@
-//! Numbers as decimal texts.
+//! Words that stand for themselves, and numbers as decimal texts.
 ghost use Rattle.std.specs.Prelude.{◌≡◌, ◌<◌, ◌≤◌, ◌^◌, ◌-◌, ◌↔◌, ℕ, IfSome, IfNone, IsTrue, length, take, min, decimal};
 ghost use Rattle.std.specs.List.{prefix_len};
 ghost use Rattle.std.specs.Char.{is_ascii_digit};
 ghost use Rattle.std.specs.Str.Parse.{digits_value};
 
 use itoa::Buffer;
+
+/// Whether a word is this one, octet for octet.
+pub fn is_word(word: &[u8], name: &[u8]) -> bool
+    ensures { IsTrue result ↔ (word.now ≡ name.now) }
+{
+    word == name
+}
 
 /// The number below 2^64 that a word writes in decimal digits, without sign and without leading zeros.
 pub fn read_decimal(word: &[u8]) -> Option<u64>

@@ -1,7 +1,7 @@
 //! The keeper of nodes.
 ghost use Rattle.std.specs.Prelude.{◌≡◌, ◌≢◌, ◌<◌, ℕ, Bool, true, false, List, [], ◌∷◌, ◌++◌, Option, None, Some, IsSome, IsTrue, map};
 ghost use Rattle.kj_base.specs.Places.{Spot, Row as RowSeen, row, spot_placed, spots_without, IsOneToOne, spot_as, row_as};
-ghost use Rattle.kj_base.specs.Store.{slot_number, rows_of, IsBareOrNone, IsCovered, StandsBefore, rows_after, KeepsOthers, is_named, AreBelow};
+ghost use Rattle.kj_base.specs.Store.{slot_number, rows_of, IsBareOrNone, IsCovered, StandsBefore, rows_after, KeepsOthers, HasLower, KeepsLive, is_named, AreBelow};
 ghost use Rattle.kj_base.specs.declared.nodes.Node.{Node};
 
 use crate::nodes::{Node, Row, Slot};
@@ -109,6 +109,8 @@ pub fn place_two<S: Store>(store: &mut S, before: Option<Slot>, lower: Node, upp
     requires bare { IsBareOrNone (S.is_bare store.old) (slot_number before) }
     requires fits { IsTrue (S.room store.old (row (slot_number before) 2 ∷ [])) }
     ensures upper { S.node_at store.new result.0 ≡ Some upper }
+    ensures lower { HasLower lower (S.node_at store.new) (S.stands_before store.new) result.0 }
+    ensures kept { KeepsLive (S.node_at store.old) (S.node_at store.new) }
     ensures slots { S.slots store.new ≡ S.slots store.old }
 {
     let first = store.place(before, lower);

@@ -1,5 +1,4 @@
 pub mod Along
-pub mod Decimals
 pub mod Logs
 pub mod Meanings
 pub mod Places

@@ -15,7 +15,7 @@ use Rattle.kj_base.specs.declared.script.Line.TheVariants.{Do, Turn}
 use Rattle.kj_base.specs.declared.script.NumberedLine.{NumberedLine}
 use Rattle.kj_base.specs.declared.script.Script.{Script}
 use Rattle.kj_script.specs.ScriptText.{step_word, StepFits, line_words, LineFits, words_of, is_remark, Means, MeanAll, numbered_from, IsScriptText, lines_of}
-use Rattle.kj_script.proofs.Decimals.{decimal_same}
+use Rattle.kj_base.proofs.Digits.{decimal_same}
 
 -- a number's text isn't `-`
 no_dash : (n : ℕ) → n < 2 ^ 64 → codes "-" ≡ decimal n → ⊥

@@ -1,15 +1,9 @@
 //! The fields of a line.
-ghost use Rattle.std.specs.Prelude.{◌≡◌, ◌<◌, ◌^◌, ℕ, ◌↔◌, IfSome, IfNone, IsTrue, Option, decimal};
+ghost use Rattle.std.specs.Prelude.{◌≡◌, ◌<◌, ◌^◌, ℕ, IfSome, IfNone, Option, decimal};
 ghost use Rattle.kj_base.specs.declared.numbers.StepId.{StepId};
 ghost use Rattle.kj_script.specs.ScriptText.{step_word, StepFits};
 
-use kj_base::{Name, StepId, read_decimal};
-
-pub fn is_word(word: &[u8], name: &[u8]) -> bool
-    ensures { IsTrue result ↔ (word.now ≡ name.now) }
-{
-    word == name
-}
+use kj_base::{Name, StepId, is_word, read_decimal};
 
 /// A number below 2^32 in decimal digits, without leading zeros.
 pub fn read_number(word: &[u8]) -> Option<u32>

@@ -3,8 +3,8 @@ ghost use Rattle.std.specs.Prelude.{◌≡◌, List, [], ◌∷◌, IfSome, IfNo
 ghost use Rattle.kj_base.specs.declared.script.Line.{Line};
 ghost use Rattle.kj_script.specs.ScriptText.{line_words, LineFits};
 
-use crate::fields::{is_word, read_name, read_step};
-use kj_base::{Command, Line};
+use crate::fields::{read_name, read_step};
+use kj_base::{Command, Line, is_word};
 
 /// The line that these words are.
 pub fn line_of(words: &[&[u8]]) -> Option<Line>

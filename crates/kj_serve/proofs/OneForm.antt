@@ -1,7 +1,7 @@
 -- The words are those of one form at most.
 use Rattle.std.proofs.Common.{◌≡◌, ◌<◌, ◌≤◌, ◌*◌, ◌^◌, ℕ, List, [], ◌∷◌, refl, sym, ap, subst, arith, ◌∙◌}
 use Rattle.std.specs.Prelude.{codes, decimal}
-use Rattle.kj_script.proofs.Decimals.{decimal_same}
+use Rattle.kj_base.proofs.Digits.{decimal_same}
 use Rattle.kj_serve.specs.declared.forms.Form.{Form}
 use Rattle.kj_serve.specs.declared.forms.Form.TheVariants.{Run, Replay, Make}
 use Rattle.kj_serve.specs.declared.replay.ServiceName.{ServiceName}

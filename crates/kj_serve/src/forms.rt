@@ -4,7 +4,7 @@ ghost use Rattle.kj_serve.specs.declared.forms.Form.{Form};
 ghost use Rattle.kj_serve.specs.Words.{IsForm, IsFormOf};
 
 use crate::replay::ServiceName;
-use kj_base::read_decimal;
+use kj_base::{is_word, read_decimal};
 
 /// What the program is to do.
 #[derive(Clone, Copy, Debug, PartialEq, Eq)]
@@ -109,10 +109,4 @@ fn is_within(n: u64, most: u64) -> bool
     ensures { IsTrue result ↔ (0 < n) × (n < most + 1) }
 {
     0 < n && n <= most
-}
-
-fn is_word(word: &[u8], name: &[u8]) -> bool
-    ensures { IsTrue result ↔ (word.now ≡ name.now) }
-{
-    word == name
 }
