@@ -74,6 +74,7 @@ armed_kept e old new k room l nodes names next limits queue = record {
   next = rw next k.next;
   queue = rw queue (armed_keeps BreadthFirst e (events_of old.order) k.queue);
   live = rw nodes (subst (λ (q : Events). AreLive q.list old.nodes.items) (sym queue) (live_armed e old.nodes.items (events_of old.order) l k.live));
+  rising = rw nodes k.rising;
   built = rw (nodes, next) k.built;
   trees = rw nodes k.trees;
   roots = rw (nodes, next, names) k.roots;

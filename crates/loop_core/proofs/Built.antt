@@ -18,7 +18,7 @@ use Rattle.loop_core.specs.declared.names.Named.{Named}
 use Rattle.loop_core.specs.Nodes.{shown, nodes_of, tree_of, is_event}
 use Rattle.loop_core.specs.Order.{events_of}
 use Rattle.loop_core.specs.Engine.{tasks_of, spot_of}
-use Rattle.loop_core.specs.Kept.{is_live, is_task, TreeFits, TreesFit, RootFits, RootsFit, AreLive, AreBuilt, IsKept, HasRoom}
+use Rattle.loop_core.specs.Kept.{is_live, is_task, TreeFits, TreesFit, RootFits, RootsFit, AreLive, AreBuilt, IsRising, IsKept, HasRoom}
 use Rattle.loop_core.specs.Seen.{plain, unplaced}
 use Rattle.loop_core.proofs.Alls.{all_more, all_append}
 
@@ -69,6 +69,10 @@ live_more x nodes node h = list_any-append (λ (n : Node). n.number == x) nodes 
 raised : (next : ℕ) (nodes : List Node) → AreBuilt next nodes → AreBuilt (next + 1) nodes
 raised next nodes h = all_more _ _ (λ (node : Node) k. omega (arith, k)) nodes h
 
+rising_more : (next : ℕ) (form : FormCase) (nodes : List Node) → IsRising nodes → AreBuilt next nodes → IsRising (nodes ++ node_with next form ∷ [])
+rising_more next form [] h built = (tt, tt)
+rising_more next form (node ∷ nodes) h built = (all_append _ nodes (node_with next form ∷ []) h.0 (built.0, tt), rising_more next form nodes h.1 built.1)
+
 -- what is kept where a node is built and the names change
 pub built_keeps : (form : FormCase) (old new : Engine) → IsKept old → HasRoom new → new.limits ≡ old.limits → new.order ≡ old.order
     → new.nodes.items ≡ old.nodes.items ++ node_with old.next form ∷ [] → new.next ≡ old.next + 1
@@ -83,6 +87,7 @@ built_keeps form old new k room limits order nodes next few low tree names roots
   next = rw next (omega arith);
   queue = rw order k.queue;
   live = rw (order, nodes) (all_more _ _ (λ (x : ℕ) h. live_more x old.nodes.items (node_with old.next form) h) old.order.events.items k.live);
+  rising = rw nodes (rising_more old.next form old.nodes.items k.rising k.built);
   built = rw (nodes, next) (all_append _ old.nodes.items (node_with old.next form ∷ []) (raised old.next old.nodes.items k.built) (omega arith, tt));
   trees = rw nodes (all_append _ old.nodes.items (node_with old.next form ∷ []) (trees_more old.next form old.nodes.items old.nodes.items k.built k.trees) (tree_of_root old.next form old.nodes.items (tree_of form) tree, tt));
   roots = rw (nodes, next) roots;

@@ -15,7 +15,7 @@ use Rattle.loop_core.specs.declared.nodes.Form.{Form as FormCase}
 use Rattle.loop_core.specs.Nodes.{shown, shown_node, nodes_of, node_changed, nodes_changed, is_event, tree_of}
 use Rattle.loop_core.specs.Order.{events_of}
 use Rattle.loop_core.specs.Engine.{world_of, tasks_of, spot_of}
-use Rattle.loop_core.specs.Kept.{is_live, is_task, TreeFits, TreesFit, RootFits, RootsFit, AreLive, AreBuilt, IsKept, HasRoom}
+use Rattle.loop_core.specs.Kept.{is_live, is_task, TreeFits, TreesFit, RootFits, RootsFit, AreLive, AreBuilt, IsRising, IsKept, HasRoom}
 use Rattle.loop_core.proofs.Alls.{all_more}
 
 change_case : (b : Bool) (n : ℕ) (form : FormCase) (node : Node) → (node.number == n) ≡ b → shown_node (node_changed n form node) ≡ formed n (shown form) (shown_node node)
@@ -100,6 +100,15 @@ built_put : (n next : ℕ) (form : FormCase) (nodes : List Node) → AreBuilt ne
 built_put n next form [] h = tt
 built_put n next form (node ∷ nodes) h = (let low = h.0 in let same = same_number n form node in omega (arith, low, same), built_put n next form nodes h.1)
 
+later_put : (m n : ℕ) (form : FormCase) (nodes : List Node) → AllByRecursion (λ (later : Node). m < later.number) nodes → AllByRecursion (λ (later : Node). m < later.number) (nodes_changed n form nodes)
+later_put m n form [] h = tt
+later_put m n form (node ∷ nodes) h = (let low = h.0 in let same = same_number n form node in omega (arith, low, same), later_put m n form nodes h.1)
+
+rising_put : (n : ℕ) (form : FormCase) (nodes : List Node) → IsRising nodes → IsRising (nodes_changed n form nodes)
+rising_put n form [] h = tt
+rising_put n form (node ∷ nodes) h =
+    (rw (same_number n form node) (later_put node.number n form nodes h.0), rising_put n form nodes h.1)
+
 tree_put : (owner n : ℕ) (form : FormCase) (all : List Node) (tree : Option ℕ) → is_event form ≡ false → TreeFits all owner tree → TreeFits (nodes_changed n form all) owner tree
 tree_put owner n form all None f h = tt
 tree_put owner n form all (Some tree) f h = (h.0, no_task_put tree n form all f h.1)
@@ -123,6 +132,7 @@ put_kept n form old new f t k room nodes limits order names next = record {
   next = rw next k.next;
   queue = rw order k.queue;
   live = rw (order, nodes) (all_more _ _ (λ (x : ℕ) h. live_same x n form old.nodes.items h) old.order.events.items k.live);
+  rising = rw nodes (rising_put n form old.nodes.items k.rising);
   built = rw (nodes, next) (built_put n old.next form old.nodes.items k.built);
   trees = rw nodes (trees_put n form old.nodes.items old.nodes.items f t k.trees);
   roots = rw (nodes, next, names) (all_more _ _ (λ (x : Named) h. (h.0, no_task_put x.root n form old.nodes.items f h.1)) old.names.items k.roots);

@@ -9,7 +9,7 @@ use Rattle.loop_core.specs.declared.engine.Engine.{Engine}
 use Rattle.loop_core.specs.declared.nodes.Node.{Node}
 use Rattle.loop_core.specs.declared.names.Named.{Named}
 use Rattle.loop_core.specs.Nodes.{without_node, is_event, tree_of}
-use Rattle.loop_core.specs.Kept.{is_live, is_task, TreeFits, TreesFit, RootsFit, AreLive, AreBuilt, IsKept, HasRoom}
+use Rattle.loop_core.specs.Kept.{is_live, is_task, TreeFits, TreesFit, RootsFit, AreLive, AreBuilt, IsRising, IsKept, HasRoom}
 use Rattle.loop_core.specs.Order.{events_of}
 use Rattle.kj_base.proofs.QueueLemmas.{disarmed_keeps}
 use Rattle.loop_core.proofs.Alls.{all_more, all_filter, none_filter, filter_shorter}
@@ -85,6 +85,14 @@ live_case false n nodes q e k h = live_unfound n nodes q.list h e
 pub live_gone : (n : ℕ) (nodes : List Node) (q : Events) → IsQueue q → AreLive q.list nodes → AreLive (disarmed n q).list (without_node n nodes)
 live_gone n nodes q k h = live_case _ n nodes q refl k h
 
+rising_kept : (b : Bool) (node : Node) (nodes : List Node) → AllByRecursion (λ (later : Node). node.number < later.number) nodes → IsRising nodes → IsRising (cond b (node ∷ nodes) nodes)
+rising_kept true node nodes h rising = (h, rising)
+rising_kept false node nodes h rising = rising
+
+rising_filter : (q : Node → Bool) (nodes : List Node) → IsRising nodes → IsRising (filter q nodes)
+rising_filter q [] h = tt
+rising_filter q (node ∷ nodes) h = rising_kept (q node) node (filter q nodes) (all_filter _ q nodes h.0) (rising_filter q nodes h.1)
+
 pub gone_keeps : (n : ℕ) (old new : Engine) → IsKept old → HasRoom new → new.limits ≡ old.limits → new.next ≡ old.next → new.names ≡ old.names
     → new.nodes.items ≡ without_node n old.nodes.items → events_of new.order ≡ disarmed n (events_of old.order) → IsKept new
 gone_keeps n old new k room limits next names nodes queue = record {
@@ -94,6 +102,7 @@ gone_keeps n old new k room limits next names nodes queue = record {
   next = rw next k.next;
   queue = rw queue (disarmed_keeps n (events_of old.order) k.queue);
   live = rw nodes (let h = live_gone n old.nodes.items (events_of old.order) k.queue k.live in subst (λ (q : Events). AreLive q.list (without_node n old.nodes.items)) (sym queue) h);
+  rising = rw nodes (rising_filter (λ (node : Node). not (node.number == n)) old.nodes.items k.rising);
   built = rw (nodes, next) (all_filter _ _ old.nodes.items k.built);
   trees = rw nodes (trees_without n old.nodes.items k.trees);
   roots = rw (nodes, next, names) (roots_without n old.next old.nodes.items old.names.items k.roots);

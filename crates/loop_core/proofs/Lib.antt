@@ -1,6 +1,7 @@
 pub mod Named
 pub mod Walks
 pub mod Alls
+pub mod Found
 pub mod Gone
 pub mod Told
 pub mod Falls

@@ -121,6 +121,7 @@ order_kept old o k room queue live = record {
   next = k.next;
   queue = queue;
   live = live;
+  rising = k.rising;
   built = k.built;
   trees = k.trees;
   roots = k.roots;

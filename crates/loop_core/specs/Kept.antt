@@ -1,6 +1,7 @@
 -- What the fields of a loop keep.
-use Rattle.std.specs.Prelude.{◌≡◌, ◌≤◌, ◌<◌, ◌+◌, ◌^◌, ℕ, List, Option, None, Some, Bool, true, false, ◌==◌, ◌&&◌, length, vec_capacity}
+use Rattle.std.specs.Prelude.{◌≡◌, ◌≤◌, ◌<◌, ◌+◌, ◌^◌, ℕ, List, [], ◌∷◌, Option, None, Some, Bool, true, false, ◌==◌, ◌&&◌, length, nat_lt, slice_index_or, vec_capacity}
 use Rattle.std.specs.List.{list_any, AllByRecursion}
+use Rattle.std.specs.List.Sorted.{IsPartitionPoint}
 use Rattle.kj_base.specs.Queue.{IsQueue}
 use Rattle.loop_core.specs.declared.engine.Engine.{Engine}
 use Rattle.loop_core.specs.declared.nodes.Node.{Node}
@@ -28,6 +29,20 @@ RootFits nodes next root = (root < next) × (is_task root nodes ≡ false)
 -- each armed event is one of a live node
 abbrev pub AreLive : List ℕ → List Node → Type 0
 AreLive events nodes = AllByRecursion (λ (x : ℕ). is_live x nodes ≡ true) events
+
+-- each node has a lower number than all behind it
+abbrev pub IsRising : List Node → Type 0
+IsRising [] = Unit {0}
+IsRising (node ∷ nodes) = AllByRecursion (λ (later : Node). node.number < later.number) nodes × IsRising nodes
+
+-- so many nodes have numbers below n, and those behind them haven't
+abbrev pub AreBelow : ℕ → List Node → ℕ → Type 0
+AreBelow n nodes count = IsPartitionPoint (λ (node : Node). nat_lt node.number n ≡ true) (λ (node : Node). nat_lt node.number n ≡ false) nodes count
+
+-- node n stands at this place
+pub record StandsAt (n : ℕ) (nodes : List Node) (place : ℕ) : Type 0 where
+  pub within : place < length nodes
+  pub number : (d : Node) → (slice_index_or nodes place d).number ≡ n
 
 -- each node was built
 abbrev pub AreBuilt : ℕ → List Node → Type 0
@@ -59,6 +74,7 @@ pub record IsKept (e : Engine) : Type 0 where
   pub next : e.next ≤ 2 ^ 63 + 1
   pub queue : IsQueue (events_of e.order)
   pub live : AreLive e.order.events.items e.nodes.items
+  pub rising : IsRising e.nodes.items
   pub built : AreBuilt e.next e.nodes.items
   pub trees : TreesFit e.nodes.items e.nodes.items
   pub roots : RootsFit e.nodes.items e.next e.names.items

@@ -19,7 +19,7 @@ use kj_base::{Limits, NodeId, Steps};
 #[derive(Drop)]
 pub(crate) struct Engine {
     pub order: Order,
-    /// By rising number.
+    /// By rising number, so that a node is found by bisection.
     pub nodes: Vec<Node>,
     /// By rising name.
     pub names: Vec<Named>,

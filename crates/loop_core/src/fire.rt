@@ -6,7 +6,7 @@ ghost use Rattle.kj_model.specs.Value.{value};
 ghost use Rattle.loop_core.specs.Nodes.{node_found};
 ghost use Rattle.loop_core.specs.Walks.{task_in};
 ghost use Rattle.loop_core.specs.Engine.{world_of, SameFixed};
-ghost use Rattle.loop_core.specs.Kept.{IsKept, RootFits};
+ghost use Rattle.loop_core.specs.Kept.{IsKept, IsRising, RootFits};
 ghost use Rattle.loop_core.specs.Turns.{Does, Turns, is_stopped, valued_task};
 
 use crate::engine::{Engine, drop_node, free_tree};
@@ -18,6 +18,7 @@ use kj_base::Steps;
 
 /// The tree of a Task that is there.
 fn task_tree(engine: &Engine, n: u64) -> Option<u64>
+    requires { IsRising engine.now.nodes.items }
     ensures { result ≡ task_in (node_found n engine.now.nodes.items) }
 {
     match form_of(&engine.nodes, n) {

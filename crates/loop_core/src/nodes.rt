@@ -1,6 +1,7 @@
 //! The live nodes in the order of building.
-ghost use Rattle.std.specs.Prelude.{◌≡◌, ◌<◌, ◌≤◌, ◌++◌, ◌+◌, [], ◌∷◌, Some, None, vec_len, vec_capacity, not, ◌==◌, ◌^◌, option_map, filter, map};
-ghost use Rattle.loop_core.specs.Nodes.{node_found, node_changed, nodes_changed, without_node, tree_of, is_event, tree_found, owns, owner_found, listener_found, listening_of, readiness_of, ready_found};
+ghost use Rattle.std.specs.Prelude.{◌≡◌, ◌<◌, ◌≤◌, ◌++◌, [], ◌∷◌, vec_len, vec_capacity, nat_lt, false, IfSome, IfNone};
+ghost use Rattle.loop_core.specs.Kept.{IsRising, AreBelow, StandsAt, TreesFit, is_live};
+ghost use Rattle.loop_core.specs.Nodes.{node_found, nodes_changed, without_node, tree_of, is_event, tree_found, owns, owner_found, listener_found, listening_of, readiness_of, ready_found};
 
 /// What a node is. A tree under it is named by the number of its root.
 #[derive(Clone, Copy)]
@@ -23,48 +24,63 @@ pub(crate) struct Node {
     pub form: Form,
 }
 
-pub(crate) fn form_of(nodes: &Vec<Node>, n: u64) -> Option<Form>
-    ensures { result ≡ node_found n nodes.now.items }
+/// How many nodes have lower numbers, by bisection.
+fn count_below(nodes: &Vec<Node>, n: u64) -> usize
+    requires { IsRising nodes.now.items }
+    ensures below { AreBelow n nodes.now.items result }
+    ensures bound { result ≤ vec_len nodes.now }
 {
-    for node in nodes {
-        if node.number == n {
-            return Some(node.form);
-        }
-    }
-    None
+    nodes.partition_point(
+        |node| -> bool
+            ensures { result ≡ nat_lt node.now.number n }
+        { node.number < n },
+    )
 }
 
-fn changed(node: Node, n: u64, form: Form) -> Node
-    ensures { result ≡ node_changed n form node }
+/// The place of node n.
+fn place_of(nodes: &Vec<Node>, n: u64) -> Option<usize>
+    requires { IsRising nodes.now.items }
+    ensures found { IfSome result (StandsAt n nodes.now.items) }
+    ensures none { IfNone result (is_live n nodes.now.items ≡ false) }
 {
-    if node.number == n {
-        Node {
-            number: node.number,
-            form,
-        }
-    } else {
-        node
+    let place = count_below(nodes, n);
+    if place >= nodes.len() {
+        return None;
+    }
+    if nodes[place].number != n {
+        return None;
+    }
+    Some(place)
+}
+
+pub(crate) fn form_of(nodes: &Vec<Node>, n: u64) -> Option<Form>
+    requires { IsRising nodes.now.items }
+    ensures { result ≡ node_found n nodes.now.items }
+{
+    match place_of(nodes, n) {
+        Some(place) => Some(nodes[place].form),
+        None => None,
     }
 }
 
 pub(crate) fn put_form(nodes: &mut Vec<Node>, n: u64, form: Form)
+    requires { IsRising nodes.old.items }
     ensures items { nodes.new.items ≡ nodes_changed n form nodes.old.items }
     ensures capacity { vec_capacity nodes.new ≡ vec_capacity nodes.old }
 {
-    for node in nodes.iter_mut() {
-        *node = changed(*node, n, form);
+    if let Some(place) = place_of(nodes, n) {
+        nodes[place] = Node { number: n, form };
     }
 }
 
 pub(crate) fn remove_node(nodes: &mut Vec<Node>, n: u64)
+    requires { IsRising nodes.old.items }
     ensures items { nodes.new.items ≡ without_node n nodes.old.items }
     ensures capacity { vec_capacity nodes.new ≡ vec_capacity nodes.old }
 {
-    nodes.retain(
-        |node| -> bool
-            ensures { result ≡ not (node.now.number == n) }
-        { node.number != n },
-    );
+    if let Some(place) = place_of(nodes, n) {
+        nodes.remove(place);
+    }
 }
 
 pub(crate) fn add_node(nodes: &mut Vec<Node>, number: u64, form: Form)
@@ -88,6 +104,7 @@ pub(crate) fn tree_under(form: Form) -> Option<u64>
 
 /// The tree under node n, where the node is live and has one.
 pub(crate) fn tree_at(nodes: &Vec<Node>, n: u64) -> Option<Option<u64>>
+    requires { IsRising nodes.now.items }
     ensures { result ≡ tree_found n nodes.now.items }
 {
     form_of(nodes, n).map(tree_under)
@@ -102,11 +119,14 @@ fn is_over(node: Node, n: u64) -> bool
     }
 }
 
-/// The node that owns the tree of node n.
+/// The node that owns the tree of node n: it was built later.
 fn owner_of(nodes: &Vec<Node>, n: u64) -> Option<Node>
+    requires rising { IsRising nodes.now.items }
+    requires trees { TreesFit nodes.now.items nodes.now.items }
     ensures { result ≡ owner_found n nodes.now.items }
 {
-    for node in nodes {
+    let lower = count_below(nodes, n);
+    for node in &nodes[lower..] {
         if is_over(*node, n) {
             return Some(*node);
         }
@@ -148,6 +168,8 @@ fn heard_by(owner: Option<Node>) -> Listening
 
 /// The nearest node above node n that has an event; `depth` bounds the way.
 pub(crate) fn listener_of(nodes: &Vec<Node>, depth: usize, n: u64) -> Option<u64>
+    requires rising { IsRising nodes.now.items }
+    requires trees { TreesFit nodes.now.items nodes.now.items }
     ensures { result ≡ listener_found depth n nodes.now.items }
 {
     let mut at = n;
@@ -188,6 +210,7 @@ fn told_by(form: Option<Form>) -> Readiness
 
 /// Whether a tree is ready; `depth` bounds the way down.
 pub(crate) fn is_ready(nodes: &Vec<Node>, depth: usize, n: u64) -> bool
+    requires { IsRising nodes.now.items }
     ensures { result ≡ ready_found depth n nodes.now.items }
 {
     let mut at = n;

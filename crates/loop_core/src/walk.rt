@@ -1,5 +1,6 @@
 //! The way down a tree.
 ghost use Rattle.std.specs.Prelude.{◌≡◌, ◌<◌, ◌≤◌, ◌+◌, [], ◌∷◌, ◌++◌, vec_len, vec_capacity};
+ghost use Rattle.loop_core.specs.Kept.{IsRising};
 ghost use Rattle.loop_core.specs.Walks.{tree_path, frame_found, frames_found};
 
 use crate::nodes::{Form, Node, form_of, tree_at};
@@ -25,6 +26,7 @@ pub(crate) fn put_last<T: Drop>(items: &mut Vec<T>, item: T)
 
 /// The nodes of a tree, the root first; `depth` bounds the way.
 pub(crate) fn go_down(nodes: &Vec<Node>, path: &mut Vec<u64>, depth: usize, root: u64)
+    requires rising { IsRising nodes.now.items }
     requires room { depth ≤ vec_capacity path.old }
     ensures path { path.new.items ≡ tree_path depth root nodes.now.items }
     ensures capacity { vec_capacity path.old ≤ vec_capacity path.new }
@@ -46,6 +48,7 @@ pub(crate) fn go_down(nodes: &Vec<Node>, path: &mut Vec<u64>, depth: usize, root
 }
 
 fn frame_of(nodes: &Vec<Node>, n: u64) -> Option<Frame>
+    requires { IsRising nodes.now.items }
     ensures { result ≡ frame_found n nodes.now.items }
 {
     match form_of(nodes, n) {
@@ -70,6 +73,7 @@ fn frame_of(nodes: &Vec<Node>, n: u64) -> Option<Frame>
 
 /// The continuations of a tree, the root first; `depth` bounds the way.
 pub(crate) fn open_frames(nodes: &Vec<Node>, frames: &mut Vec<Frame>, depth: usize, root: u64)
+    requires rising { IsRising nodes.now.items }
     requires room { depth ≤ vec_capacity frames.old }
     ensures frames { frames.new.items ≡ frames_found depth root nodes.now.items }
     ensures capacity { vec_capacity frames.old ≤ vec_capacity frames.new }

@@ -30,6 +30,7 @@ rising-init g c =
         next = kept.next;
         queue = kept.queue;
         live = kept.live;
+        rising = kept.rising;
         built = kept.built;
         trees = kept.trees;
         roots = kept.roots;

@@ -1,13 +1,13 @@
-use Rattle.std.proofs.Common.{arith, length, ◌≡◌, ap}
-use Rattle.std.proofs.lemmas.List.{get_or_default}
-use Rattle.std.proofs.lemmas.List.Edits.{map_over_more}
-use Rattle.loop_core.specs.Nodes.{node_changed}
+use Rattle.std.proofs.Common.{sym, [], ◌∷◌}
+use Rattle.loop_core.specs.declared.nodes.Node.{Node}
+use Rattle.loop_core.specs.declared.nodes.Form.TheVariants.{Later}
+use Rattle.loop_core.proofs.Found.{put_here, put_nowhere}
 use Rattle.loop_core.proofs.nodes.put_form.Goals as goal
 
-pub loop-node-preserved : goal.loop-node-preserved
-loop-node-preserved c =
-    let xs = c.args.nodes.now.items in
-    let ys = c.loop-node.node-items in
-    let i = c.loop-node.node-index in
-    let same : length c.deref_mut-node-items.result.now ≡ length xs = ap length c.deref_mut-node-items.ensures.value in
-    rw c.changed.ensures (map_over_more (node_changed c.args.n c.args.form) xs ys i _ (omega arith) c.loop-node.invariant (get_or_default ys i _ _ (omega arith)))
+pub returns-in-Some-clause-items : goal.returns-in-Some-clause-items
+returns-in-Some-clause-items c =
+    let d : Node = record { number = 0; form = Later } in
+    put_here c.args.n c.args.form c.args.nodes.now.items c.requires c.in-Some.place d c.in-Some.ensures.found.within (c.in-Some.ensures.found.number d)
+
+pub returns-in_default-clause-items : goal.returns-in_default-clause-items
+returns-in_default-clause-items c = sym (put_nowhere c.args.n c.args.form c.args.nodes.now.items c.in_default.ensures.none)

@@ -1,7 +1,13 @@
-use Rattle.std.proofs.Common.{rules, ◌==◌, not}
-use Rattle.std.proofs.lemmas.Fn.{filter_same}
+use Rattle.std.proofs.Common.{sym, ◌∙◌}
 use Rattle.loop_core.specs.declared.nodes.Node.{Node}
+use Rattle.loop_core.specs.declared.nodes.Form.TheVariants.{Later}
+use Rattle.loop_core.proofs.Found.{gone_here, gone_nowhere}
 use Rattle.loop_core.proofs.nodes.remove_node.Goals as goal
 
-pub returns-clause-items : goal.returns-clause-items
-returns-clause-items c = filter_same _ (λ (node : Node). not (node.number == c.args.n)) _ (λ x b f' k. search rules) _ _ c.retain.ensures.filtered
+pub returns-in-Some-clause-items : goal.returns-in-Some-clause-items
+returns-in-Some-clause-items c =
+    let d : Node = record { number = 0; form = Later } in
+    c.remove.ensures.items ∙ gone_here c.args.n c.args.nodes.now.items c.requires c.in-Some.place d c.in-Some.ensures.found.within (c.in-Some.ensures.found.number d)
+
+pub returns-in_default-clause-items : goal.returns-in_default-clause-items
+returns-in_default-clause-items c = sym (gone_nowhere c.args.n c.args.nodes.now.items c.in_default.ensures.none)
