@@ -3,6 +3,7 @@ use crate::command::kj_main;
 use kj_base::{Bytes, NoMemory};
 use kj_io::{MemSink, MemSource, Refusing, Sink, Source, Turn};
 use std::alloc::Global;
+use std::process::Abort;
 use std::sync::Wait;
 use std::test::Fail;
 use std::thread::Threads;
@@ -245,6 +246,130 @@ fn made_and_replayed(rt: HostRuntime) -> Result<(), Fail> {
     Ok(())
 }
 
+const FAULT: &[u8] = b"HTTP/1.1 400 Bad Request\r\nContent-Length: 0\r\nConnection: close\r\n\r\n";
+
+/// A text of version 1 with one connection.
+fn one_connection(alloc: Global, header: &[u8], octets: &[u8]) -> Result<Bytes, NoMemory> {
+    let mut text = Bytes::from_slice(alloc, header)?;
+    text.extend(format!(in alloc; "conn {}\n", octets.len())?.as_bytes())?;
+    text.extend(octets)?;
+    text.extend(b"\n")?;
+    Ok(text)
+}
+
+/// Recordings of one connection with its replies, read in two pieces that are cut at each place.
+#[test]
+fn cut_recordings(rt: HostRuntime) -> Result<(), Fail> {
+    let alloc = rt.alloc();
+    let cases: [(&str, &[u8], &[u8]); 13] = [
+        (
+            "target",
+            b"GET /a HTTP/1.1\r\nHost: h\r\n\r\nHEAD /a HTTP/1.1\r\nHost: h\r\n\r\nPOST /b HTTP/1.1\r\nHost: h\r\nContent-Length: 3\r\n\r\nabc",
+            b"HTTP/1.1 200 OK\r\nContent-Length: 6\r\n\r\nGET /aHTTP/1.1 200 OK\r\nContent-Length: 7\r\n\r\nHTTP/1.1 200 OK\r\nContent-Length: 7\r\n\r\nPOST /b",
+        ),
+        (
+            "echo",
+            b"POST / HTTP/1.1\r\nHost: a\r\nTransfer-Encoding: chunked\r\n\r\n3;x=1\r\nabc\r\n0\r\nT: 1\r\n\r\nGET / HTTP/1.1\r\nHost: a\r\n\r\n",
+            b"HTTP/1.1 200 OK\r\nContent-Length: 3\r\n\r\nabcHTTP/1.1 200 OK\r\nContent-Length: 0\r\n\r\n",
+        ),
+        (
+            "echo",
+            b"POST / HTTP/1.1\r\nHost: a\r\nContent-Length: 3\r\nTransfer-Encoding: chunked\r\n\r\n3;x=1\r\nabc\r\n0\r\nT: 1\r\n\r\nGET / HTTP/1.1\r\nHost: a\r\n\r\n",
+            FAULT,
+        ),
+        ("echo", b"GET / HTTP/1.1\r\n\r\n", FAULT),
+        (
+            "echo",
+            b"\r\nGET / HTTP/1.0\r\n\r\n",
+            b"HTTP/1.1 200 OK\r\nContent-Length: 0\r\nConnection: close\r\n\r\n",
+        ),
+        ("echo", b"\r\n", b""),
+        ("echo", b"GET / HTTP/1.1\r\nHost: a\r\n", FAULT),
+        (
+            "echo",
+            b"POST / HTTP/1.1\r\nHost: a\r\nContent-Length: 5\r\n\r\nab",
+            FAULT,
+        ),
+        (
+            "target",
+            b"GET /x HTTP/1.1\r\nHost: localhost:8080\r\nUser-Agent: curl/8.0\r\nAccept: */*\r\n\r\n",
+            b"HTTP/1.1 200 OK\r\nContent-Length: 6\r\n\r\nGET /x",
+        ),
+        (
+            "echo",
+            b"POST / HTTP/1.1\r\nHost: a\r\nTransfer-Encoding: gzip, chunked\r\n\r\n",
+            b"HTTP/1.1 501 Not Implemented\r\nContent-Length: 0\r\nConnection: close\r\n\r\n",
+        ),
+        (
+            "target",
+            b"GET /0/0 HTTP/1.1\r\nHost: kj.test\r\n\r\n",
+            b"HTTP/1.1 200 OK\r\nContent-Length: 8\r\n\r\nGET /0/0",
+        ),
+        (
+            "target",
+            b"GET /chunk HTTP/1.1\r\nHost: a\r\n\r\n",
+            b"HTTP/1.1 200 OK\r\nTransfer-Encoding: chunked\r\n\r\na\r\nGET /chunk\r\n0\r\n\r\n",
+        ),
+        (
+            "target",
+            b"GET /empty HTTP/1.1\r\nHost: a\r\n\r\n",
+            b"HTTP/1.1 204 No Content\r\n\r\n",
+        ),
+    ];
+    for (service, octets, replies) in cases {
+        let input = one_connection(alloc, b"kjrec 1\n", octets)?;
+        let output = one_connection(alloc, b"kjrep 1\n", replies)?;
+        for place in 1..input.len() {
+            let mut reads = Vec::new(alloc);
+            reads.push(Turn::Octets(place))?;
+            let words = ["replay", "1", service];
+            let ended = done(&rt, alloc, &words, input.as_slice(), reads, Vec::new(alloc))?;
+            assert!(&rt; ended.is(0, output.as_slice()), "{service} at {place}");
+        }
+    }
+    Ok(())
+}
+
+/// A made recording of 40 connections with five requests each is answered.
+#[test]
+fn many_connections(rt: HostRuntime) -> Result<(), Fail> {
+    let alloc = rt.alloc();
+    let words = ["make", "1", "40", "5"];
+    let made = done(&rt, alloc, &words, b"", Vec::new(alloc), Vec::new(alloc))?;
+    assert!(&rt; made.status == 0);
+    let input = made.written.as_slice();
+    let words = ["replay", "1", "target"];
+    let whole = done(&rt, alloc, &words, input, Vec::new(alloc), Vec::new(alloc))?;
+    assert!(&rt; whole.status == 0);
+    let output = whole.written.as_slice();
+    assert_eq!(&rt; found(output, b"conn "), 40);
+    assert_eq!(&rt; found(output, b"HTTP/1.1 200 OK"), 200);
+    let mut single = Vec::new(alloc);
+    for _ in 0..input.len() {
+        single.push(Turn::Octets(1))?;
+    }
+    let cut = done(&rt, alloc, &words, input, single, Vec::new(alloc))?;
+    assert!(&rt; cut.is(0, output));
+    let front = done(
+        &rt,
+        alloc,
+        &words,
+        input,
+        Vec::new(alloc),
+        failing(alloc, 1, 20)?,
+    )?;
+    assert!(&rt; output.len() > 20 && front.is(4, &output[..20]));
+    Ok(())
+}
+
+/// How often a text stands among these octets.
+fn found(octets: &[u8], text: &[u8]) -> usize {
+    octets
+        .windows(text.len())
+        .filter(|part| *part == text)
+        .count()
+}
+
 /// The log of the two continuations, with the input cut in two at each place and the output cut everywhere.
 #[test]
 fn cut_input(rt: HostRuntime) -> Result<(), Fail> {
@@ -264,65 +389,148 @@ fn cut_input(rt: HostRuntime) -> Result<(), Fail> {
     Ok(())
 }
 
-/// The k-th read fails, and the k-th write, for each k until a run meets no fault.
-#[test]
-fn failing_calls(rt: HostRuntime) -> Result<(), Fail> {
-    let alloc = rt.alloc();
+/// What the program does with these words on these octets where nothing fails.
+#[derive(Clone, Copy)]
+struct Example<'a> {
+    words: &'a [&'a str],
+    octets: &'a [u8],
+    status: u8,
+    output: &'a [u8],
+}
+
+/// The k-th read fails, for each k until a run meets no fault.
+fn failing_reads<R: Abort + Wait + Threads + Sync>(
+    rt: &R,
+    alloc: Global,
+    example: Example<'_>,
+) -> Result<(), Fail> {
     let mut met = true;
-    for k in 0..40 {
-        let ended = ran(&rt, alloc, TWO, failing(alloc, k, 7)?, Vec::new(alloc))?;
+    for k in 0..60 {
+        let reads = failing(alloc, k, 7)?;
+        let ended = done(
+            rt,
+            alloc,
+            example.words,
+            example.octets,
+            reads,
+            Vec::new(alloc),
+        )?;
         met = ended.reads > 0;
         let right = if met {
             ended.is(3, b"")
         } else {
-            ended.is(0, TWO_LOG)
+            ended.is(example.status, example.output)
         };
-        assert!(&rt; right, "read {k}");
+        assert!(rt; right, "read {k}");
         if !met {
             break;
         }
     }
-    assert!(&rt; !met);
-    for k in 0..40 {
-        let ended = ran(&rt, alloc, TWO, Vec::new(alloc), failing(alloc, k, 7)?)?;
-        met = ended.written.faults() > 0;
-        let count = ended.written.as_slice().len();
-        assert!(&rt; count <= TWO_LOG.len());
-        let right = if met {
-            ended.is(4, &TWO_LOG[..count])
-        } else {
-            ended.is(0, TWO_LOG)
-        };
-        assert!(&rt; right, "write {k}");
-        if !met {
-            break;
-        }
-    }
-    assert!(&rt; !met);
+    assert!(rt; !met);
     Ok(())
 }
 
-/// The 4,097th name is refused, and none before.
-#[test]
-fn full(rt: HostRuntime) -> Result<(), Fail> {
-    let alloc = rt.alloc();
-    let mut text = Bytes::new(alloc);
-    for n in 1..4098 {
-        text.extend(format!(in alloc; "later {n}\n")?.as_bytes())?;
+/// The k-th write fails likewise; what was written before it is a front of the output.
+fn failing_writes<R: Abort + Wait + Threads + Sync>(
+    rt: &R,
+    alloc: Global,
+    example: Example<'_>,
+) -> Result<(), Fail> {
+    let mut met = true;
+    for k in 0..60 {
+        let writes = failing(alloc, k, 7)?;
+        let ended = done(
+            rt,
+            alloc,
+            example.words,
+            example.octets,
+            Vec::new(alloc),
+            writes,
+        )?;
+        met = ended.written.faults() > 0;
+        let count = ended.written.as_slice().len();
+        assert!(rt; count <= example.output.len());
+        let right = if met {
+            ended.is(4, &example.output[..count])
+        } else {
+            ended.is(example.status, example.output)
+        };
+        assert!(rt; right, "write {k}");
+        if !met {
+            break;
+        }
     }
-    let names = ran(
+    assert!(rt; !met);
+    Ok(())
+}
+
+#[test]
+fn failing_calls(rt: HostRuntime) -> Result<(), Fail> {
+    let alloc = rt.alloc();
+    let make: [&str; 4] = ["make", "1", "2", "2"];
+    let replay: [&str; 3] = ["replay", "1", "target"];
+    let recording = done(&rt, alloc, &make, b"", Vec::new(alloc), Vec::new(alloc))?;
+    let recording = recording.written.as_slice();
+    let replies = done(
         &rt,
         alloc,
-        text.as_slice(),
+        &replay,
+        recording,
         Vec::new(alloc),
         Vec::new(alloc),
     )?;
-    assert_eq!(&rt; names.status, 0);
-    assert!(&rt;
-        names
-            .written
-            .as_slice()
-            .starts_with(b"refused 4097 full\nfree 1\nfree 2\n")
-    );
+    let replies = replies.written.as_slice();
+    let cases: [(&[&str], &[u8], u8, &[u8]); 6] = [
+        (&["run"], TWO, 0, TWO_LOG),
+        (&["run"], b"later x\n", 9, b"not built\n"),
+        (&replay, recording, 0, replies),
+        (&replay, b"kjrec 1\nconn 3\nGE", 1, b"bad record 0\n"),
+        (&make, b"", 0, recording),
+        (&["run"], b"", 0, b""),
+    ];
+    for (words, octets, status, output) in cases {
+        let example = Example {
+            words,
+            octets,
+            status,
+            output,
+        };
+        failing_reads(&rt, alloc, example)?;
+        failing_writes(&rt, alloc, example)?;
+    }
+    Ok(())
+}
+
+/// What a script logs, where the program ends with 0.
+fn log_of<R: Abort + Wait + Threads + Sync>(
+    rt: &R,
+    alloc: Global,
+    octets: &[u8],
+) -> Result<Ended, Fail> {
+    let ended = ran(rt, alloc, octets, Vec::new(alloc), Vec::new(alloc))?;
+    assert_eq!(rt; ended.status, 0);
+    Ok(ended)
+}
+
+/// The 4,097th name is refused, and none before; likewise the 65,537th node.
+#[test]
+fn full(rt: HostRuntime) -> Result<(), Fail> {
+    let alloc = rt.alloc();
+    let mut names = Bytes::new(alloc);
+    for n in 1..4098 {
+        names.extend(format!(in alloc; "later {n}\n")?.as_bytes())?;
+    }
+    let log = log_of(&rt, alloc, names.as_slice())?;
+    let front = b"refused 4097 full\nfree 1\nfree 2\n".as_slice();
+    assert!(&rt; log.written.as_slice().starts_with(front));
+    // Each of these makes two nodes: the leaf and the task over it.
+    let mut nodes = Bytes::new(alloc);
+    for _ in 0..32_768 {
+        nodes.extend(b"later 1\ndetach 1\n")?;
+    }
+    nodes.extend(b"later 1\nlater 2\n")?;
+    let log = log_of(&rt, alloc, nodes.as_slice())?;
+    let front = b"refused 65537 full\nrefused 65538 full\nfree 65535\nfree 65536\nfree 65533\n";
+    assert!(&rt; log.written.as_slice().starts_with(front.as_slice()));
     Ok(())
 }
