@@ -1,5 +1,5 @@
 //! Heads and chunked bodies.
-ghost use Rattle.std.specs.Prelude.{◌≡◌, IfOk};
+ghost use Rattle.std.specs.Prelude.{◌≡◌, ◌≤◌, ◌*◌, IfOk, length};
 ghost use Rattle.http_frames.specs.Progress.{phase_after};
 ghost use Rattle.http_frames.specs.declared.Phase.TheVariants.{Going};
 
@@ -11,7 +11,7 @@ use std::alloc::Global;
 
 /// What is read.
 #[derive(Clone, Copy, Debug, PartialEq, Eq)]
-pub enum Work {
+pub(crate) enum Work {
     /// A head of some 50 octets, and its framing.
     ShortHead,
     /// A head of some 800 octets, and its framing.
@@ -22,14 +22,29 @@ pub enum Work {
 
 /// What was done in a round.
 #[derive(Clone, Copy, Debug, PartialEq, Eq)]
-pub struct Done {
+pub(crate) struct Done {
     pub octets: u64,
     /// Heads, or bodies.
     pub items: u64,
 }
 
+const NOTHING: Done = Done {
+    octets: 0,
+    items: 0,
+};
+
+/// One item that is the whole text.
+fn whole(text: &[u8]) -> Done
+    ensures { result ≡ record { octets = length text.now; items = 1 } }
+{
+    Done {
+        octets: text.len() as u64,
+        items: 1,
+    }
+}
+
 /// Each work with its word.
-pub static WORKS: [(&str, Work); 8] = [
+pub(crate) static WORKS: [(&str, Work); 8] = [
     ("short-heads", Work::ShortHead),
     ("long-heads", Work::LongHead),
     ("chunks-1-pieces-1", Work::Body { chunk: 1, piece: 1 }),
@@ -71,13 +86,13 @@ pub static WORKS: [(&str, Work); 8] = [
 ];
 
 /// The body of a round that prints figures: 16 MiB.
-pub const WHOLE_BODY: usize = 16_777_216;
+pub(crate) const WHOLE_BODY: usize = 16_777_216;
 
 /// The body of a round of everything.
-pub const SMALL_BODY: usize = 131_072;
+pub(crate) const SMALL_BODY: usize = 131_072;
 
 /// The work of a word.
-pub fn named(word: &str) -> Option<Work> {
+pub(crate) fn named(word: &str) -> Option<Work> {
     for (name, work) in WORKS.iter() {
         if *name == word {
             return Some(*work);
@@ -102,27 +117,23 @@ fn head_at_front(alloc: Global, head: &[u8]) -> Result<HeadRead, NoMemory> {
     read_head(alloc, head)
 }
 
-fn read_one(alloc: Global, head: &[u8]) -> Result<Done, NoMemory> {
-    match head_at_front(alloc, head)? {
-        HeadRead::Whole(read, len) => {
-            let items = if framing(&read) == Framing::Empty {
-                1
-            } else {
-                0
-            };
-            Ok(Done {
-                octets: len as u64,
-                items,
-            })
-        }
-        HeadRead::More => Ok(Done {
-            octets: 0,
-            items: 0,
-        }),
-        HeadRead::Bad => Ok(Done {
-            octets: 0,
-            items: 0,
-        }),
+/// A head without a body that is the whole text.
+fn is_bodyless(read: &HeadRead, len: usize) -> bool {
+    match read {
+        HeadRead::Whole(head, end) => *end == len && framing(head) == Framing::Empty,
+        HeadRead::More => false,
+        HeadRead::Bad => false,
+    }
+}
+
+fn read_one(alloc: Global, text: &[u8]) -> Result<Done, NoMemory>
+    ensures { IfOk result (λ done. (done.items ≤ 1) × (done.octets ≡ done.items * length text.now)) }
+{
+    let read = head_at_front(alloc, text)?;
+    if is_bodyless(&read, text.len()) {
+        Ok(whole(text))
+    } else {
+        Ok(NOTHING)
     }
 }
 
@@ -154,30 +165,24 @@ fn feed(chunks: &mut Chunks, piece: &[u8]) -> Result<Frame, NoMemory>
     chunks.feed(piece)
 }
 
-fn read_body(alloc: Global, text: &[u8], piece: usize) -> Result<Done, NoMemory> {
+fn read_body(alloc: Global, text: &[u8], piece: usize) -> Result<Done, NoMemory>
+    ensures { IfOk result (λ done. (done.items ≤ 1) × (done.octets ≡ done.items * length text.now)) }
+{
     let mut chunks = Chunks::new(alloc);
     let mut rest = text;
     for _ in 0..text.len() {
         let front = front_of(rest, piece);
         match feed(&mut chunks, front)? {
             Frame::More => rest = &rest[front.len()..],
-            Frame::Whole(_) => {
-                return Ok(Done {
-                    octets: text.len() as u64,
-                    items: 1,
-                });
-            }
+            Frame::Whole(_) => return Ok(whole(text)),
             Frame::Bad => break,
         }
     }
-    Ok(Done {
-        octets: 0,
-        items: 0,
-    })
+    Ok(NOTHING)
 }
 
 /// What a work reads.
-pub fn text_of(alloc: Global, work: Work, size: usize) -> Result<Bytes, NoMemory> {
+pub(crate) fn text_of(alloc: Global, work: Work, size: usize) -> Result<Bytes, NoMemory> {
     match work {
         Work::ShortHead => Bytes::from_slice(alloc, SHORT_HEAD),
         Work::LongHead => long_head(alloc),
@@ -185,8 +190,10 @@ pub fn text_of(alloc: Global, work: Work, size: usize) -> Result<Bytes, NoMemory
     }
 }
 
-/// One round of a work over what it reads.
-pub fn round(alloc: Global, work: Work, text: &[u8]) -> Result<Done, NoMemory> {
+/// One round of a work over what it reads: one item that is the whole text, or none.
+pub(crate) fn round(alloc: Global, work: Work, text: &[u8]) -> Result<Done, NoMemory>
+    ensures { IfOk result (λ done. (done.items ≤ 1) × (done.octets ≡ done.items * length text.now)) }
+{
     match work {
         Work::ShortHead => read_one(alloc, text),
         Work::LongHead => read_one(alloc, text),

@@ -364,10 +364,13 @@ fn many_connections(rt: HostRuntime) -> Result<(), Fail> {
 
 /// How often a text stands among these octets.
 fn found(octets: &[u8], text: &[u8]) -> usize {
-    octets
-        .windows(text.len())
-        .filter(|part| *part == text)
-        .count()
+    let mut count: usize = 0;
+    for start in 0..octets.len() {
+        if octets[start..].starts_with(text) {
+            count = count.saturating_add(1);
+        }
+    }
+    count
 }
 
 /// The log of the two continuations, with the input cut in two at each place and the output cut everywhere.
