@@ -15,11 +15,11 @@ pub app_nil : {A : Type 0} (xs : List A) → xs ++ [] ≡ xs
 app_nil [] = refl
 app_nil (x ∷ xs) = ap (λ ys. x ∷ ys) (app_nil xs)
 
-app_assoc : {A : Type 0} (xs ys zs : List A) → (xs ++ ys) ++ zs ≡ xs ++ (ys ++ zs)
+pub app_assoc : {A : Type 0} (xs ys zs : List A) → (xs ++ ys) ++ zs ≡ xs ++ (ys ++ zs)
 app_assoc [] ys zs = refl
 app_assoc (x ∷ xs) ys zs = ap (λ ts. x ∷ ts) (app_assoc xs ys zs)
 
-map_app : {A B : Type 0} (f : A → B) (xs ys : List A) → map f (xs ++ ys) ≡ map f xs ++ map f ys
+pub map_app : {A B : Type 0} (f : A → B) (xs ys : List A) → map f (xs ++ ys) ≡ map f xs ++ map f ys
 map_app f [] ys = refl
 map_app f (x ∷ xs) ys = ap (λ ts. f x ∷ ts) (map_app f xs ys)
 
@@ -27,7 +27,7 @@ or_assoc : (a b c : Bool) → ((a || b) || c) ≡ (a || (b || c))
 or_assoc true b c = refl
 or_assoc false b c = refl
 
-in_app : (m : ℕ) (xs ys : List ℕ) → is_in m (xs ++ ys) ≡ (is_in m xs || is_in m ys)
+pub in_app : (m : ℕ) (xs ys : List ℕ) → is_in m (xs ++ ys) ≡ (is_in m xs || is_in m ys)
 in_app m [] ys = refl
 in_app m (x ∷ xs) ys = ap (λ b. (x == m) || b) (in_app m xs ys) ∙ sym (or_assoc (x == m) (is_in m xs) (is_in m ys))
 

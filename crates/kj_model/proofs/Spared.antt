@@ -21,20 +21,20 @@ among_right [] ls ns h = h
 among_right (m ∷ ms) ls ns h = among_right ms ls ns h.1
 
 -- forms after a node went or got another form
-no_form : (form : Form) → ◌≡◌ {A = Option Form} None (Some form) → ⊥
+pub no_form : (form : Form) → ◌≡◌ {A = Option Form} None (Some form) → ⊥
 no_form form e = cc
 
 form_without_other_more : (n h : ℕ) (e : Entry) (es : List Entry) → nat_eq n h ≡ false → form_at h (without n es) ≡ form_at h es → form_at h (without n (e ∷ es)) ≡ form_at h (e ∷ es)
 form_without_other_more n h e es d ih = grind (arith, nat_tests)
 
-form_without_other : (n h : ℕ) (es : List Entry) → nat_eq n h ≡ false → form_at h (without n es) ≡ form_at h es
+pub form_without_other : (n h : ℕ) (es : List Entry) → nat_eq n h ≡ false → form_at h (without n es) ≡ form_at h es
 form_without_other n h [] d = refl
 form_without_other n h (e ∷ es) d = form_without_other_more n h e es d (form_without_other n h es d)
 
 form_without_same_more : (n : ℕ) (e : Entry) (es : List Entry) → form_at n (without n es) ≡ None → form_at n (without n (e ∷ es)) ≡ None
 form_without_same_more n e es ih = grind (arith, nat_tests)
 
-form_without_same : (n : ℕ) (es : List Entry) → form_at n (without n es) ≡ None
+pub form_without_same : (n : ℕ) (es : List Entry) → form_at n (without n es) ≡ None
 form_without_same n [] = refl
 form_without_same n (e ∷ es) = form_without_same_more n e es (form_without_same n es)
 
@@ -45,14 +45,14 @@ form_without_if false n h form es e is = sym (form_without_other n h es e) ∙ i
 form_put_other_more : (n h : ℕ) (form : Form) (e : Entry) (es : List Entry) → nat_eq n h ≡ false → form_at h (with_form n form es) ≡ form_at h es → form_at h (with_form n form (e ∷ es)) ≡ form_at h (e ∷ es)
 form_put_other_more n h form e es d ih = grind (arith, nat_tests)
 
-form_put_other : (n h : ℕ) (form : Form) (es : List Entry) → nat_eq n h ≡ false → form_at h (with_form n form es) ≡ form_at h es
+pub form_put_other : (n h : ℕ) (form : Form) (es : List Entry) → nat_eq n h ≡ false → form_at h (with_form n form es) ≡ form_at h es
 form_put_other n h form [] d = refl
 form_put_other n h form (e ∷ es) d = form_put_other_more n h form e es d (form_put_other n h form es d)
 
 form_put_same_more : (n : ℕ) (form old : Form) (e : Entry) (es : List Entry) → (form_at n es ≡ Some old → form_at n (with_form n form es) ≡ Some form) → form_at n (e ∷ es) ≡ Some old → form_at n (with_form n form (e ∷ es)) ≡ Some form
 form_put_same_more n form old e es ih is = grind (arith, nat_tests)
 
-form_put_same : (n : ℕ) (form old : Form) (es : List Entry) → form_at n es ≡ Some old → form_at n (with_form n form es) ≡ Some form
+pub form_put_same : (n : ℕ) (form old : Form) (es : List Entry) → form_at n es ≡ Some old → form_at n (with_form n form es) ≡ Some form
 form_put_same n form old [] is = absurd (no_form old is)
 form_put_same n form old (e ∷ es) is = form_put_same_more n form old e es (form_put_same n form old es) is
 
@@ -66,7 +66,7 @@ kept_bool true false a x ds test is g h k = absurd (false≢true (g refl))
 kept_bool false true a x ds test is g h k = ap (λ t. t || list_any test ds) is ∙ k h
 kept_bool false false a x ds test is g h k = ap (λ t. t || list_any test ds) is
 
-same_number : (x n : ℕ) → nat_eq x n ≡ true → n ≡ x
+pub same_number : (x n : ℕ) → nat_eq x n ≡ true → n ≡ x
 same_number x n e = grind (arith, nat_tests)
 
 any_dropped : (n : ℕ) (ns xs : List ℕ) → is_in n ns ≡ true → list_any (λ b. not (is_in b ns)) xs ≡ true → list_any (λ b. not (is_in b ns)) (dropped n xs) ≡ true

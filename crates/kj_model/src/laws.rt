@@ -7,6 +7,7 @@ ghost use Rattle.kj_base.specs.Queue.{Events, Way, IsQueue, is_armed, armed, dis
 ghost use Rattle.kj_model.specs.Apply.{Refused, refusal, apply};
 ghost use Rattle.kj_model.specs.Calls.{Call, call, calls, turn, Idle};
 ghost use Rattle.kj_model.specs.Causes.{causes, first_cause};
+ghost use Rattle.kj_model.specs.Falling.{falling};
 ghost use Rattle.kj_model.specs.Free.{Guard, Every, free_to};
 ghost use Rattle.kj_model.specs.Grown.{Grows};
 ghost use Rattle.kj_model.specs.Nodes.{Entry};
@@ -39,8 +40,9 @@ pub fn idle_turn_changes_nothing()
     ensures { (setting : Setting) (s : State) → s.world.stopped ≡ false → IsQueue s.world.queue → s.world.queue.list ≡ [] → turn setting s ≡ (s, Idle) }
 {}
 
-/// Freeing a tree frees exactly its nodes, dependencies first, each once, and each other node keeps what it owns.
+/// Freeing a node frees exactly what goes with it, hubs too, in this order, and each other node keeps what it owns. Where no hub goes these are the nodes of its tree, dependencies first, each once.
 pub fn tree_is_freed()
+    ensures whole { (guard : Guard) (k n : ℕ) (s : State) → Frees (falling guard s.world k [] [] n) s (free_to guard k n s) }
     ensures closing { (k n : ℕ) (s : State) → AreApart (tree_numbers k s.world.nodes n) → Frees (tree_numbers k s.world.nodes n) s (free_to Every k n s) }
     ensures guarded { (guard : Guard) (k n : ℕ) (s : State) → AreApart (tree_numbers k s.world.nodes n) → HubsStay (tree_numbers k s.world.nodes n) s.world.nodes → Frees (tree_numbers k s.world.nodes n) s (free_to guard k n s) }
 {}
