@@ -75,7 +75,7 @@ none_staying : (b : Bool) (out : ℕ → Bool) (n : ℕ) (nodes : List Entry) (o
 none_staying true out n nodes o = refl
 none_staying false out n nodes o = refl
 
-some_if : (b : Bool) (o : Option Form) (form : Form) → none_if b o ≡ Some form → o ≡ Some form
+pub some_if : (b : Bool) (o : Option Form) (form : Form) → none_if b o ≡ Some form → o ≡ Some form
 some_if true o form e = absurd (no_form form e)
 some_if false o form e = e
 

@@ -1,9 +1,9 @@
 -- What goes with a node, read off the nodes as they stand before anything goes.
-use Rattle.std.specs.Prelude.{ℕ, zero, suc, List, [], ◌∷◌, ◌++◌, Option, None, Some, Bool, true, false, not, ◌&&◌, ◌||◌, ◌==◌, filter}
-use Rattle.kj_model.specs.Nodes.{Entry, Form, Branch, Hub, form_at, parts_of, is_in}
+use Rattle.std.specs.Prelude.{◌≡◌, ℕ, zero, suc, List, [], ◌∷◌, ◌++◌, Option, None, Some, Bool, true, false, not, ◌&&◌, ◌||◌, ◌==◌, filter}
+use Rattle.kj_model.specs.Nodes.{Entry, Form, Content, Branch, Hub, form_at, parts_of, is_in}
 use Rattle.kj_model.specs.World.{World}
 use Rattle.kj_model.specs.Free.{Guard, is_guarded}
-use Rattle.kj_model.specs.Trees.{none_if}
+use Rattle.kj_model.specs.Trees.{none_if, tree_numbers, AreApart}
 
 -- whether a node of this form is a branch of the hub
 abbrev pub is_branch_of : ℕ → Option Form → Bool
@@ -62,3 +62,32 @@ form_falling guard w falls way gone n (Some form) = let below = each_falling (fa
 unfoldable pub falling : Guard → World → ℕ → List ℕ → List ℕ → ℕ → List ℕ
 falling guard w zero way gone n = []
 falling guard w (suc k) way gone n = form_falling guard w (falling guard w k) way gone n (none_if (is_in n gone) (form_at n w.nodes))
+
+-- a hub without a name, all of whose branches are among these nodes
+pub record HubFalls (hub : ℕ) (ns : List ℕ) (nodes : List Entry) : Type 0 where
+  pub content : Content
+  pub branches : List ℕ
+  pub form : form_at hub nodes ≡ Some (Hub content false branches)
+  pub left : branches_staying (λ b. is_in b ns) hub nodes branches ≡ []
+
+-- why a node goes with node n, where these go: it is of the tree of n, or of the tree of such a hub
+pub data Reason (k : ℕ) (nodes : List Entry) (ns : List ℕ) (n m : ℕ) : Type 0 where
+  OfTree : is_in m (tree_numbers k nodes n) ≡ true → Reason k nodes ns n m
+  OfHub : (hub : ℕ) → HubFalls hub ns nodes → is_in hub ns ≡ true → is_in m (tree_numbers k nodes hub) ≡ true → Reason k nodes ns n m
+
+-- whether this is a hub without a name
+abbrev pub is_unnamed_hub : Option Form → Bool
+is_unnamed_hub (Some (Hub content false branches)) = true
+is_unnamed_hub other = false
+
+-- no number stands in both
+abbrev pub AreDisjoint : List ℕ → List ℕ → Type 0
+AreDisjoint xs ys = (m : ℕ) → is_in m xs ≡ true → is_in m ys ≡ false
+
+-- the trees of a node and of the hubs without a name have each node once, and none in common; such a hub lists each of its branches
+pub record StandApart (n : ℕ) (nodes : List Entry) : Type 0 where
+  pub tree : (k : ℕ) → AreApart (tree_numbers k nodes n)
+  pub hubs : (k hub : ℕ) → is_unnamed_hub (form_at hub nodes) ≡ true → AreApart (tree_numbers k nodes hub)
+  pub elsewhere : (j k hub : ℕ) → is_unnamed_hub (form_at hub nodes) ≡ true → AreDisjoint (tree_numbers j nodes hub) (tree_numbers k nodes n)
+  pub others : (j k hub other : ℕ) → is_unnamed_hub (form_at hub nodes) ≡ true → is_unnamed_hub (form_at other nodes) ≡ true → (hub == other) ≡ false → AreDisjoint (tree_numbers j nodes hub) (tree_numbers k nodes other)
+  pub listed : (b hub : ℕ) (content : Content) (branches : List ℕ) → form_at b nodes ≡ Some (Branch hub) → form_at hub nodes ≡ Some (Hub content false branches) → is_in b branches ≡ true
