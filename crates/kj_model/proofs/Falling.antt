@@ -1,7 +1,8 @@
 -- Freeing a node frees exactly what goes with it, hubs too.
-use Rattle.std.proofs.Common.{zero, suc, ◌≡◌, ℕ, List, [], ◌∷◌, ◌++◌, Bool, true, false, not, cond, Option, None, Some, arith, refl, sym, ap, ◌∙◌, subst, ◌||◌, ◌&&◌, ◌==◌}
+use Rattle.std.proofs.Common.{append_assoc, zero, suc, ◌≡◌, ℕ, List, [], ◌∷◌, ◌++◌, Bool, true, false, not, cond, Option, None, Some, arith, refl, sym, ap, ◌∙◌, subst, ◌||◌, ◌&&◌, ◌==◌}
 use Rattle.std.specs.Prelude.{map, nat_eq, filter}
 use Rattle.std.specs.List.{list_any}
+use Rattle.std.proofs.lemmas.List.{append-nil, map-append}
 use Rattle.std.proofs.lemmas.Bool.{false≢true}
 use Rattle.std.proofs.lemmas.Bool.Decides.{nat_tests}
 use Rattle.kj_base.specs.Record.{Free}
@@ -11,7 +12,7 @@ use Rattle.kj_model.specs.Changes.{silent, gone, gone_world}
 use Rattle.kj_model.specs.Free.{Guard, Holding, Every, is_guarded, free_unless, free_to, free_form, each_freed, unlinked, free_unreferenced, without_branch, without_branch_in, without_wrap_in, abandoned_as, ask_of}
 use Rattle.kj_model.specs.Trees.{some_parts, none_if, Frees}
 use Rattle.kj_model.specs.Falling.{is_branch_of, branches_staying, form_staying, some_staying, form_then, without_all, unless_kept, hub_falling, reference_falling, each_falling, form_falling, falling}
-use Rattle.kj_model.proofs.Freed.{app_nil, app_assoc, map_app, in_app}
+use Rattle.kj_model.proofs.Freed.{in_app, none_none, none_twice, or_none}
 use Rattle.kj_model.proofs.Spared.{no_form, same_number, form_without_same, form_without_other, form_put_same, form_put_other}
 
 -- a world that is left after some nodes went and the branches on the way left their hubs
@@ -25,12 +26,12 @@ record Fell (w : World) (way done ns : List ℕ) (old new : State) : Type 0 wher
   stands : Stands w way (done ++ ns) new.world
 
 fell_none : (w : World) (way done : List ℕ) (s t : State) → t.past ≡ s.past → Stands w way done t.world → Fell w way done [] s t
-fell_none w way done s t same st = record { told = same ∙ sym (app_nil s.past); stands = subst (λ ds. Stands w way ds t.world) (sym (app_nil done)) st }
+fell_none w way done s t same st = record { told = same ∙ sym (append-nil s.past); stands = subst (λ ds. Stands w way ds t.world) (sym (append-nil done)) st }
 
 fell_both : (w : World) (way done ms ns : List ℕ) (a b c : State) → Fell w way done ms a b → Fell w way (done ++ ms) ns b c → Fell w way done (ms ++ ns) a c
 fell_both w way done ms ns a b c f g = record {
-  told = g.told ∙ ap (λ ts. ts ++ map Free ns) f.told ∙ app_assoc a.past (map Free ms) (map Free ns) ∙ ap (λ ts. a.past ++ ts) (sym (map_app Free ms ns));
-  stands = subst (λ ds. Stands w way ds c.world) (app_assoc done ms ns) g.stands;
+  told = g.told ∙ ap (λ ts. ts ++ map Free ns) f.told ∙ append_assoc a.past (map Free ms) (map Free ns) ∙ ap (λ ts. a.past ++ ts) (sym (map-append Free ms ns));
+  stands = subst (λ ds. Stands w way ds c.world) (append_assoc done ms ns) g.stands;
 }
 
 -- a change of the ways out that no branch sees leaves the forms
@@ -84,12 +85,6 @@ form_without_if : (b : Bool) (n m : ℕ) (es : List Entry) → nat_eq n m ≡ b 
 form_without_if true n m es e = let same : n ≡ m = sym (same_number n m e) in subst (λ (x : ℕ). form_at x (without n es) ≡ None) same (form_without_same n es)
 form_without_if false n m es e = form_without_other n m es e
 
-none_twice : (f g : Bool) (o : Option Form) → none_if g (none_if f o) ≡ none_if (f || (g || false)) o
-none_twice true true o = refl
-none_twice true false o = refl
-none_twice false true o = refl
-none_twice false false o = refl
-
 passed : (e a g : Bool) → ((e || a) || g) ≡ (a || (g || (e || false)))
 passed true true g = refl
 passed true false true = refl
@@ -105,7 +100,7 @@ gone_stands w way done n v st = record {
       form_without_if (n == m) n m v.nodes refl
       ∙ ap (none_if (n == m)) (st.forms m)
       ∙ none_twice (is_in m done) (n == m) (some_staying (λ b. is_in b (n ∷ way) || is_in b done) m w.nodes (form_at m w.nodes))
-      ∙ ap (λ c. none_if c (some_staying (λ b. is_in b (n ∷ way) || is_in b done) m w.nodes (form_at m w.nodes))) (sym (in_app m done (n ∷ [])))
+      ∙ ap (λ c. none_if c (some_staying (λ b. is_in b (n ∷ way) || is_in b done) m w.nodes (form_at m w.nodes))) (ap (λ c. is_in m done || c) (or_none (n == m)) ∙ sym (in_app m done (n ∷ [])))
       ∙ ap (none_if (is_in m (done ++ n ∷ []))) (staying_same (λ b. is_in b (n ∷ way) || is_in b done) (λ b. is_in b way || is_in b (done ++ n ∷ [])) m w.nodes (form_at m w.nodes)
       (λ b. ap (λ c. c && is_branch_of m (form_at b w.nodes)) (passed (n == b) (is_in b way) (is_in b done) ∙ ap (λ c. is_in b way || c) (sym (in_app b done (n ∷ []))))));
 }
@@ -173,7 +168,7 @@ drop_form n hub way done nodes false None is = refl
 drop_form n hub way done nodes false (Some (Hub content is_named branches)) is = ap (λ bs. Some (Hub content is_named bs)) (drop_staying n hub way done nodes branches is)
 drop_form n hub way done nodes false (Some _) is = refl
 
-self : (n : ℕ) → nat_eq n n ≡ true
+pub self : (n : ℕ) → nat_eq n n ≡ true
 self n = grind (arith, nat_tests)
 
 branch_form : (b : Bool) (w : World) (way done : List ℕ) (n hub m : ℕ) (v : World) → nat_eq hub m ≡ b → form_at n w.nodes ≡ Some (Branch hub) → Stands w way done v → form_at m (without_branch n hub v).nodes ≡ form_then (n ∷ way) done m w.nodes
@@ -191,10 +186,6 @@ left_more m done e es h = grind (arith, nat_tests)
 
 form_left : (m : ℕ) (done : List ℕ) (es : List Entry) → form_at m (filter (λ (x : Entry). not (is_in x.number done)) es) ≡ none_if (is_in m done) (form_at m es)
 form_left m done [] = sym (none_none (is_in m done))
-  where
-    none_none : (b : Bool) → none_if {A = Form} b None ≡ None
-    none_none true = refl
-    none_none false = refl
 form_left m done (e ∷ es) = left_more m done e es (form_left m done es)
 
 found_staying : (c : Bool) (out : ℕ → Bool) (n : ℕ) (nodes : List Entry) (o : Option Form) → parts_found (none_if c (some_staying out n nodes o)) ≡ parts_found (none_if c o)
@@ -264,8 +255,8 @@ unlinked_fell guard w k way done n _ s falls at st = fell_none w (n ∷ way) don
 
 gone_fell : (w : World) (way done ns : List ℕ) (n : ℕ) (s t : State) → Fell w (n ∷ way) done ns s t → Fell w way done (ns ++ n ∷ []) s (gone n t)
 gone_fell w way done ns n s t f = record {
-  told = ap (λ ts. ts ++ Free n ∷ []) f.told ∙ app_assoc s.past (map Free ns) (Free n ∷ []) ∙ ap (λ ts. s.past ++ ts) (sym (map_app Free ns (n ∷ [])));
-  stands = subst (λ ds. Stands w way ds (gone_world n t.world)) (app_assoc done ns (n ∷ [])) (gone_stands w way (done ++ ns) n t.world f.stands);
+  told = ap (λ ts. ts ++ Free n ∷ []) f.told ∙ append_assoc s.past (map Free ns) (Free n ∷ []) ∙ ap (λ ts. s.past ++ ts) (sym (map-append Free ns (n ∷ [])));
+  stands = subst (λ ds. Stands w way ds (gone_world n t.world)) (append_assoc done ns (n ∷ [])) (gone_stands w way (done ++ ns) n t.world f.stands);
 }
 
 form_fell : (guard : Guard) (w : World) (k : ℕ) (way done : List ℕ) (n : ℕ) (o : Option Form) (s : State) → FallsTo guard w k → none_if (is_in n done) (form_at n w.nodes) ≡ o → Stands w way done s.world

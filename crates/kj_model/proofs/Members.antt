@@ -41,12 +41,8 @@ in_self n ns = grind (arith, nat_tests)
 pub in_none : (m : ℕ) → is_in m [] ≡ true → ⊥
 in_none m h = false≢true h
 
--- in one of the trees of these parts
-pub in_part : (k : ℕ) (nodes : List Entry) (p : ℕ) (ps qs : List ℕ) (m : ℕ) → is_in m (tree_numbers k nodes p) ≡ true → is_in m (flat_map (tree_numbers k nodes) (p ∷ ps)) ≡ true
-in_part k nodes p ps qs m h = in_left m (tree_numbers k nodes p) (flat_map (tree_numbers k nodes) ps) h
-
 -- a greater bound reads no fewer nodes
-more_all : (k : ℕ) (nodes : List Entry) (ps : List ℕ) → ((n : ℕ) → Within (tree_numbers k nodes n) (tree_numbers (suc k) nodes n)) → Within (flat_map (tree_numbers k nodes) ps) (flat_map (tree_numbers (suc k) nodes) ps)
+pub more_all : (k : ℕ) (nodes : List Entry) (ps : List ℕ) → ((n : ℕ) → Within (tree_numbers k nodes n) (tree_numbers (suc k) nodes n)) → Within (flat_map (tree_numbers k nodes) ps) (flat_map (tree_numbers (suc k) nodes) ps)
 more_all k nodes [] more m h = h
 more_all k nodes (p ∷ ps) more m h = elim (in_either m (tree_numbers k nodes p) (flat_map (tree_numbers k nodes) ps) h) [
   | inl a ↦ in_left m (tree_numbers (suc k) nodes p) (flat_map (tree_numbers (suc k) nodes) ps) (more p m a)

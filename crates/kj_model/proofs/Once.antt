@@ -1,16 +1,15 @@
 -- No node goes twice where the trees stand apart.
-use Rattle.std.proofs.Common.{zero, suc, ◌≡◌, inl, inr, ℕ, List, [], ◌∷◌, ◌++◌, Bool, true, false, not, cond, Option, None, Some, arith, refl, sym, ap, ◌∙◌, subst, ◌||◌, ◌&&◌, ◌==◌}
-use Rattle.std.specs.Prelude.{flat_map, nat_eq}
+use Rattle.std.proofs.Common.{append_assoc, zero, suc, ◌≡◌, inl, inr, ℕ, List, [], ◌∷◌, ◌++◌, Bool, true, false, not, cond, Option, None, Some, refl, sym, ap, ◌∙◌, subst, ◌||◌, ◌&&◌, ◌==◌}
+use Rattle.std.specs.Prelude.{flat_map}
 use Rattle.std.proofs.lemmas.Bool.{false≢true, or_parts}
-use Rattle.std.proofs.lemmas.Bool.Decides.{nat_tests}
 use Rattle.kj_model.specs.Nodes.{Entry, Form, Content, Branch, Hub, form_at, parts_of, is_in}
 use Rattle.kj_model.specs.World.{World}
 use Rattle.kj_model.specs.Free.{Guard, is_guarded}
 use Rattle.kj_model.specs.Trees.{tree_numbers, none_if, AreApart}
 use Rattle.kj_model.specs.Falling.{is_branch_of, branches_staying, some_staying, form_then, without_all, unless_kept, hub_falling, reference_falling, each_falling, form_falling, falling, is_unnamed_hub, AreDisjoint, StandApart}
-use Rattle.kj_model.proofs.Freed.{in_app, app_assoc, apart_left, apart_right, apart_out}
+use Rattle.kj_model.proofs.Freed.{in_app, or_false, swapped, apart_left, apart_right, apart_out}
 use Rattle.kj_model.proofs.Spared.{no_form, same_number}
-use Rattle.kj_model.proofs.Falling.{some_if}
+use Rattle.kj_model.proofs.Falling.{some_if, self}
 use Rattle.kj_model.proofs.Members.{Within, in_either, in_left, in_right, in_one, in_self, in_none, tree_of}
 use Rattle.kj_model.proofs.Reasons.{branches_in, no_cons}
 
@@ -22,17 +21,13 @@ pub false_by : (b : Bool) → (b ≡ true → ⊥) → b ≡ false
 false_by true h = absurd (h refl)
 false_by false h = refl
 
-pub neither : (a b : Bool) → a ≡ false → b ≡ false → (a || b) ≡ false
-neither true b h k = h
-neither false b h k = k
-
 pub out_both : (m : ℕ) (xs ys : List ℕ) → is_in m xs ≡ false → is_in m ys ≡ false → is_in m (xs ++ ys) ≡ false
-out_both m xs ys h k = in_app m xs ys ∙ neither (is_in m xs) (is_in m ys) h k
+out_both m xs ys h k = in_app m xs ys ∙ or_false (is_in m xs) (is_in m ys) h k
 
 out_parts : (m : ℕ) (xs ys : List ℕ) → is_in m (xs ++ ys) ≡ false → (is_in m xs ≡ false) × (is_in m ys ≡ false)
 out_parts m xs ys h = or_parts (is_in m xs) (is_in m ys) (sym (in_app m xs ys) ∙ h)
 
-apart_join : (xs ys : List ℕ) → AreApart xs → AreApart ys → AreDisjoint ys xs → AreApart (xs ++ ys)
+pub apart_join : (xs ys : List ℕ) → AreApart xs → AreApart ys → AreDisjoint ys xs → AreApart (xs ++ ys)
 apart_join [] ys a b d = b
 apart_join (x ∷ xs) ys a b d = (out_both x xs ys a.0 (false_by (is_in x ys) (λ i. both_ways (is_in x (x ∷ xs)) (in_self x xs) (d x i))), apart_join xs ys a.1 b (λ m i. (or_parts (x == m) (is_in m xs) (d m i)).1))
 
@@ -116,13 +111,10 @@ each_once guard w k way done path (p ∷ ps) once o c =
 
 -- the path with a node more
 out_path : (n m : ℕ) (path : List ℕ) → (n ≡ m → ⊥) → is_in m path ≡ false → is_in m (n ∷ path) ≡ false
-out_path n m path d i = neither (n == m) (is_in m path) (false_by (n == m) (λ e. d (sym (same_number n m e)))) i
+out_path n m path d i = or_false (n == m) (is_in m path) (false_by (n == m) (λ e. d (sym (same_number n m e)))) i
 
-different : (n m : ℕ) (path : List ℕ) → is_in m (n ∷ path) ≡ false → (m == n) ≡ false
-different n m path h = let p = or_parts (n == m) (is_in m path) h in turned n m p.0
-  where
-    turned : (n m : ℕ) → nat_eq n m ≡ false → nat_eq m n ≡ false
-    turned n m h = grind (arith, nat_tests)
+pub different : (n m : ℕ) (path : List ℕ) → is_in m (n ∷ path) ≡ false → (m == n) ≡ false
+different n m path h = swapped n m (or_parts (n == m) (is_in m path) h).0
 
 on_path : (n b : ℕ) (path done : List ℕ) → (is_in b path || is_in b done) ≡ true → (is_in b (n ∷ path) || is_in b done) ≡ true
 on_path n b path done h = either_more (n == b) (is_in b path) (is_in b done) h
@@ -186,9 +178,6 @@ hub_lost out hub b nodes false (Some (Hub d false bs)) content listed is e = sta
 hub_lost out hub b nodes false (Some (Hub d true bs)) content listed is e = absurd (false≢true (ap is_unnamed_hub e))
 hub_lost out hub b nodes false (Some _) content listed is e = absurd (false≢true (ap is_unnamed_hub e))
 
-self : (n : ℕ) → nat_eq n n ≡ true
-self n = grind (arith, nat_tests)
-
 widened : (way path done : List ℕ) (b : ℕ) → Within way path → (is_in b way || is_in b done) ≡ true → (is_in b path || is_in b done) ≡ true
 widened way path done b h e = elim (in_either b way done (in_app b way done ∙ e)) [ inl x ↦ sym (in_app b path done) ∙ in_left b path done (h b x) | inr y ↦ sym (in_app b path done) ∙ in_right b path done y ]
 
@@ -221,7 +210,7 @@ no_hub hub n nodes at u e = both_ways (is_unnamed_hub (form_at hub nodes)) u (su
 hub_off : (w : World) (k : ℕ) (way done ns path : List ℕ) (n hub : ℕ) (content : Content) → Open w.nodes way done path → is_in n path ≡ false → is_in n done ≡ false → form_at n w.nodes ≡ Some (Branch hub) → form_then (n ∷ way) ns hub w.nodes ≡ Some (Hub content false []) → is_in hub (n ∷ path) ≡ false
 hub_off w k way done ns path n hub content o off fresh at is =
     let u = hub_unnamed (λ b. is_in b (n ∷ way) || is_in b ns) hub w.nodes (is_in hub ns) (form_at hub w.nodes) content is in
-    out_path n hub path (no_hub hub n w.nodes at u) (false_by (is_in hub path) (λ i. both_ways (is_in n path || is_in n done) (o.lost hub n i u at) (neither (is_in n path) (is_in n done) off fresh)))
+    out_path n hub path (no_hub hub n w.nodes at u) (false_by (is_in hub path) (λ i. both_ways (is_in n path || is_in n done) (o.lost hub n i u at) (or_false (is_in n path) (is_in n done) off fresh)))
 
 way_more : (n : ℕ) (way path : List ℕ) → Within way path → Within (n ∷ way) (n ∷ path)
 way_more n way path h m i = elim (in_either m (n ∷ []) way i) [ inl x ↦ in_left m (n ∷ []) path x | inr y ↦ in_right m (n ∷ []) path (h m y) ]
@@ -260,7 +249,7 @@ form_once guard w k root way done path n (Some form) once st is o c =
     let ref = reference_falling guard w (falling guard w k) way (done ++ below) n form in
     let f = each_once guard w k way done (n ∷ path) (parts_of form) once p (parts_come w.nodes k done path n form at c) in
     let g = reference_once guard w k root way done (done ++ below) path n form once st o (open_more w.nodes way done (n ∷ path) below p) off fresh at in
-    subst (Goes path done) (app_assoc below ref (n ∷ [])) (goes_last path done (below ++ ref) n (goes_both (n ∷ path) done below ref f g) off fresh)
+    subst (Goes path done) (append_assoc below ref (n ∷ [])) (goes_last path done (below ++ ref) n (goes_both (n ∷ path) done below ref f g) off fresh)
 
 node_once : (guard : Guard) (w : World) (k root : ℕ) → StandApart root w.nodes → GoesOnce guard w k
 unfolding falling

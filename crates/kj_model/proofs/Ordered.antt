@@ -1,6 +1,7 @@
 -- The nodes of a tree go in the order of the tree, whatever hubs go between them.
 use Rattle.std.proofs.Common.{zero, suc, ◌≡◌, inl, inr, ℕ, List, [], ◌∷◌, ◌++◌, Bool, true, false, cond, Option, None, Some, refl, sym, ap, ◌∙◌, subst, ◌||◌}
 use Rattle.std.specs.Prelude.{flat_map, filter, map}
+use Rattle.std.proofs.lemmas.List.Elements.{filter-append}
 use Rattle.kj_base.specs.Record.{Free}
 use Rattle.kj_model.specs.Nodes.{Entry, Form, Branch, Hub, form_at, parts_of, is_in}
 use Rattle.kj_model.specs.World.{World, State}
@@ -8,7 +9,7 @@ use Rattle.kj_model.specs.Changes.{frees_in}
 use Rattle.kj_model.specs.Free.{Guard, Every, is_guarded, free_to}
 use Rattle.kj_model.specs.Trees.{some_parts, over_parts, tree_numbers, none_if, AreApart, HubsStay, Frees}
 use Rattle.kj_model.specs.Falling.{form_then, without_all, unless_kept, hub_falling, reference_falling, each_falling, form_falling, falling, Reason, OfTree, OfHub, is_unnamed_hub, AreDisjoint, StandApart}
-use Rattle.kj_model.proofs.Freed.{AllOut, apart_left, apart_right, apart_out, tree_freed}
+use Rattle.kj_model.proofs.Freed.{AllOut, none_none, apart_left, apart_right, apart_out, tree_freed}
 use Rattle.kj_model.proofs.Spared.{tree_freed_by}
 use Rattle.kj_model.proofs.Falling.{node_falls}
 use Rattle.kj_model.proofs.Members.{Within, in_either, in_left, in_right, in_one, in_self, in_none}
@@ -18,14 +19,6 @@ use Rattle.kj_model.proofs.Once.{both_ways, false_by, out_both, hub_unnamed}
 -- those of these numbers that are in the list
 abbrev pub kept_in : List ℕ → List ℕ → List ℕ
 kept_in tree ns = filter (λ m. is_in m tree) ns
-
-cond_app : (b : Bool) (x : ℕ) (xs ys : List ℕ) → cond b (x ∷ xs) xs ++ ys ≡ cond b (x ∷ (xs ++ ys)) (xs ++ ys)
-cond_app true x xs ys = refl
-cond_app false x xs ys = refl
-
-kept_app : (tree xs ys : List ℕ) → kept_in tree (xs ++ ys) ≡ kept_in tree xs ++ kept_in tree ys
-kept_app tree [] ys = refl
-kept_app tree (x ∷ xs) ys = ap (λ rest. cond (is_in x tree) (x ∷ rest) rest) (kept_app tree xs ys) ∙ sym (cond_app (is_in x tree) x (kept_in tree xs) (kept_in tree ys))
 
 kept_none : (tree xs : List ℕ) → AreDisjoint xs tree → kept_in tree xs ≡ []
 kept_none tree [] d = refl
@@ -45,7 +38,7 @@ in_kept m tree (x ∷ xs) t i = elim (in_either m (x ∷ []) xs i) [
     more true m x ys i = in_right m (x ∷ []) ys i
     more false m x ys i = i
 
-out_disjoint : (ys xs : List ℕ) → AllOut ys xs → AreDisjoint ys xs
+pub out_disjoint : (ys xs : List ℕ) → AllOut ys xs → AreDisjoint ys xs
 out_disjoint [] xs h m i = absurd (in_none m i)
 out_disjoint (y ∷ ys) xs h m i = elim (in_either m (y ∷ []) ys i) [
   | inl a ↦ subst (λ (x : ℕ). is_in x xs ≡ false) (in_one m y a) h.0
@@ -93,7 +86,7 @@ each_ordered guard w tree k way done (p ∷ ps) go t a d =
     let rest = flat_map (tree_numbers k w.nodes) ps in
     let f = go way done p (λ m i. t m (in_left m mine rest i)) (apart_left mine rest a) (λ m i. d m (in_left m mine rest i)) in
     let away : AreDisjoint rest (done ++ first) = λ m i. out_both m done first (d m (in_right m mine rest i)) (false_by (is_in m first) (λ x. both_ways (is_in m mine) (ap (is_in m) (sym f) ∙ in_kept m tree first (t m (in_right m mine rest i)) x) (out_disjoint rest mine (apart_out mine rest a) m i))) in
-    kept_app tree first (each_falling (falling guard w k way) (done ++ first) ps)
+    filter-append (λ m. is_in m tree) first (each_falling (falling guard w k way) (done ++ first) ps)
     ∙ ap (λ xs. xs ++ kept_in tree (each_falling (falling guard w k way) (done ++ first) ps)) f
     ∙ ap (λ xs. mine ++ xs) (each_ordered guard w tree k way (done ++ first) ps go (λ m i. t m (in_right m mine rest i)) (apart_right mine rest a) away)
 
@@ -104,17 +97,13 @@ form_ordered guard w tree k way done n (Some form) e go t a d =
     let trees = flat_map (tree_numbers k w.nodes) (parts_of form) in
     let below = each_falling (falling guard w k way) done (parts_of form) in
     let ref = reference_falling guard w (falling guard w k) way (done ++ below) n form in
-    kept_app tree below (ref ++ n ∷ [])
+    filter-append (λ m. is_in m tree) below (ref ++ n ∷ [])
     ∙ ap (λ xs. xs ++ kept_in tree (ref ++ n ∷ [])) (each_ordered guard w tree k way done (parts_of form) go (λ m i. t m (in_left m trees (n ∷ []) i)) (apart_left trees (n ∷ []) a) (λ m i. d m (in_left m trees (n ∷ []) i)))
-    ∙ ap (λ xs. trees ++ xs) (kept_app tree ref (n ∷ []) ∙ ap (λ xs. xs ++ kept_in tree (n ∷ [])) (reference_out guard w k tree way (done ++ below) n form e) ∙ kept_one tree n (t n (in_right n trees (n ∷ []) (in_self n []))))
+    ∙ ap (λ xs. trees ++ xs) (filter-append (λ m. is_in m tree) ref (n ∷ []) ∙ ap (λ xs. xs ++ kept_in tree (n ∷ [])) (reference_out guard w k tree way (done ++ below) n form e) ∙ kept_one tree n (t n (in_right n trees (n ∷ []) (in_self n []))))
 
 -- a node that isn't live, or that hasn't gone
 still_there : (k : ℕ) (nodes : List Entry) (done : List ℕ) (n : ℕ) (o : Option Form) → AreDisjoint (over_parts (tree_numbers k nodes) n (some_parts o)) done → none_if (is_in n done) o ≡ o
-still_there k nodes done n None d = none (is_in n done)
-  where
-    none : (b : Bool) → none_if {A = Form} b None ≡ None
-    none true = refl
-    none false = refl
+still_there k nodes done n None d = none_none (is_in n done)
 still_there k nodes done n (Some form) d = ap (λ b. none_if b (Some form)) (d n (in_right n (flat_map (tree_numbers k nodes) (parts_of form)) (n ∷ []) (in_self n [])))
 
 node_ordered : (guard : Guard) (w : World) (tree : List ℕ) (k : ℕ) → Elsewhere w.nodes tree → GoesInOrder guard w tree k

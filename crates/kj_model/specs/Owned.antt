@@ -36,9 +36,13 @@ hub_roots_form other n = []
 abbrev pub hub_roots : List Entry → List ℕ
 hub_roots nodes = flat_map (λ (e : Entry). hub_roots_form e.form e.number) nodes
 
--- where nodes stand: under a name, awaited, left over, detached, or as a hub
+-- where trees but hubs stand: under a name, awaited, left over or detached
+abbrev pub tree_roots : World → List ℕ
+tree_roots w = name_roots w.names ++ awaited_roots w.awaited ++ w.left_over ++ w.detached
+
+-- where nodes stand: there, or as a hub
 abbrev pub roots : World → List ℕ
-roots w = name_roots w.names ++ awaited_roots w.awaited ++ w.left_over ++ w.detached ++ hub_roots w.nodes
+roots w = tree_roots w ++ hub_roots w.nodes
 
 -- the nodes of all these trees
 abbrev pub standing : World → List ℕ

@@ -11,6 +11,8 @@ ghost use Rattle.kj_model.specs.Falling.{falling, Reason, StandApart};
 ghost use Rattle.kj_model.specs.Free.{Guard, Every, free_to};
 ghost use Rattle.kj_model.specs.Grown.{Grows};
 ghost use Rattle.kj_model.specs.Nodes.{Entry, is_in};
+ghost use Rattle.kj_model.specs.Owned.{tree_roots};
+ghost use Rattle.kj_model.specs.OwnedTest.{is_owned};
 ghost use Rattle.kj_model.specs.Trees.{tree_numbers, AreApart, HubsStay, Frees};
 ghost use Rattle.kj_model.specs.World.{World, State, Setting};
 
@@ -58,6 +60,11 @@ pub fn what_goes_has_a_reason()
 pub fn what_goes_goes_once()
     ensures once { (guard : Guard) (w : World) (k n : ℕ) → StandApart n w.nodes → AreApart (falling guard w k [] [] n) }
     ensures order { (guard : Guard) (w : World) (k n : ℕ) → StandApart n w.nodes → filter (λ m. is_in m (tree_numbers k w.nodes n)) (falling guard w k [] [] n) ≡ tree_numbers k w.nodes n }
+{}
+
+/// In a world that passes the test of what each world keeps, the trees of its roots stand apart.
+pub fn owned_trees_stand_apart()
+    ensures { (n : ℕ) (s : State) → is_owned s ≡ true → is_in n (tree_roots s.world) ≡ true → StandApart n s.world.nodes }
 {}
 
 /// A tree with fewer nodes than the bound is read whole: a greater bound reads the same.

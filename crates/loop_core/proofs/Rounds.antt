@@ -144,12 +144,6 @@ taken_kept old o k room e =
     order_kept old o k room (subst IsQueue (sym e) (taken_keeps q (rewound_keeps (events_of old.order) k.queue)))
     (subst (λ (r : Events). AreLive r.list old.nodes.items) (sym e) (live_taken old.nodes.items q k.live))
 
--- the queue after its first point went to the front
-pub rewound_kept : (old : Engine) (o : Order) → IsKept old → old.limits.slots ≤ vec_capacity o.events → events_of o ≡ rewound (events_of old.order) → IsKept (record old { order = o })
-rewound_kept old o k room e =
-    order_kept old o k room (subst IsQueue (sym e) (rewound_keeps (events_of old.order) k.queue))
-    (subst (λ (r : Events). AreLive r.list old.nodes.items) (sym e) k.live)
-
 none_taken : (xs : List ℕ) (d b : ℕ) → head_of (record { list = xs; depth = d; breadth = b }) ≡ None → taken (record { list = xs; depth = d; breadth = b }) ≡ record { list = xs; depth = d; breadth = b }
 none_taken [] d b h = refl
 none_taken (x ∷ xs) d b h = absurd (wrong x h)
