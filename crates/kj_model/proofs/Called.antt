@@ -6,7 +6,7 @@ use Rattle.kj_base.specs.Queue.{head_of, DepthFirst}
 use Rattle.kj_model.specs.Nodes.{Entry, Form, Content, Tree, Kept, Stage, Waits, Fired as FiredSide, Keeps, Gone, Ready, Later, Last, Cell, Branch, Then, Chain, Eager, Wrap, Hub, Side, Race, Join, Task, Request, form_at, owner_of}
 use Rattle.kj_model.specs.World.{World, State, Setting, Named, Held, Promise, CellOf, AskCell, HubOf, Group, Canceler, RequestOf, Awaited, held_at}
 use Rattle.kj_base.specs.Record.{Free}
-use Rattle.kj_model.specs.Changes.{silent, put, gone, unnamed}
+use Rattle.kj_model.specs.Changes.{silent, put, unnamed}
 use Rattle.kj_model.specs.Listening.{join_ready, announced}
 use Rattle.kj_model.specs.Free.{Guard, Holding, Every, free, each_freed}
 use Rattle.kj_model.specs.Effects.{hub_unnamed, disarmed_node}
@@ -16,9 +16,6 @@ use Rattle.kj_model.specs.Fire.{chain_ended, kept_then, kept_from, race_fired, t
 use Rattle.kj_model.specs.Calls.{Turned, Waited, Fired, Idle, NoMemory, Stopped, turn_at, turn_unless, turn, more_turns, run, wait_valued, wait_value_at, awaited_freed, name_back, let_go_of, let_go, wait_turned, wait_turn, wait_more, wait_held, wait_unless, wait, held_awaited, rewound_world, taken_world, closed_held, each_closed, hubs_closed, hubs_of, detached_closed, names_closed, left_over_closed, close, Call, CallApply, CallTurn, CallRun, CallWait, CallTakeAsk, CallTakeEnded, CallTakeAbandoned, CallClose, call, calls}
 use Rattle.kj_model.specs.Grown.{Grows}
 use Rattle.kj_model.proofs.Growing.{stays, then_grows, each_freed_grows, reference_grows, free_grows, apply_grows, run_step_grows, freed_grows, value_grows, link_grows}
-
-gone_after : (n : ℕ) (a b : State) → Grows a b → Grows a (gone n b)
-gone_after n a b g = then_grows a b (gone n b) g (Free n ∷ [], refl)
 
 chain_grows : (n link : ℕ) (o : Option Given) (s : State) → Grows s (chain_ended n link o s)
 chain_grows n link None s = stays s

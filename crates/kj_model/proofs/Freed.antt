@@ -1,6 +1,7 @@
 -- Freeing a tree frees exactly its nodes.
-use Rattle.std.proofs.Common.{zero, suc, ◌≡◌, ℕ, List, [], ◌∷◌, ◌++◌, Bool, true, false, Option, None, Some, arith, refl, sym, ap, ◌∙◌, subst, ◌||◌, ◌==◌}
+use Rattle.std.proofs.Common.{append_assoc, zero, suc, ◌≡◌, ℕ, List, [], ◌∷◌, ◌++◌, Bool, true, false, Option, None, Some, arith, refl, sym, ap, ◌∙◌, subst, ◌||◌, ◌==◌}
 use Rattle.std.specs.Prelude.{flat_map, map, nat_eq}
+use Rattle.std.proofs.lemmas.List.{append-nil, map-append}
 use Rattle.std.proofs.lemmas.Bool.{or_parts}
 use Rattle.std.proofs.lemmas.Bool.Decides.{nat_tests}
 use Rattle.kj_model.specs.Nodes.{Entry, Form, Ready, Later, Last, Cell, Branch, Then, Chain, Eager, Wrap, Hub, Side, Race, Join, Task, Request, form_at, with_form, without, parts_of, dropped, is_in}
@@ -11,23 +12,11 @@ use Rattle.kj_model.specs.Free.{Every, free_to, free_form, each_freed, unlinked,
 use Rattle.kj_model.specs.Trees.{live_parts, some_parts, over_parts, tree_numbers, AreApart, none_if, Frees}
 
 -- lists
-pub app_nil : {A : Type 0} (xs : List A) → xs ++ [] ≡ xs
-app_nil [] = refl
-app_nil (x ∷ xs) = ap (λ ys. x ∷ ys) (app_nil xs)
-
-app_assoc : {A : Type 0} (xs ys zs : List A) → (xs ++ ys) ++ zs ≡ xs ++ (ys ++ zs)
-app_assoc [] ys zs = refl
-app_assoc (x ∷ xs) ys zs = ap (λ ts. x ∷ ts) (app_assoc xs ys zs)
-
-map_app : {A B : Type 0} (f : A → B) (xs ys : List A) → map f (xs ++ ys) ≡ map f xs ++ map f ys
-map_app f [] ys = refl
-map_app f (x ∷ xs) ys = ap (λ ts. f x ∷ ts) (map_app f xs ys)
-
 or_assoc : (a b c : Bool) → ((a || b) || c) ≡ (a || (b || c))
 or_assoc true b c = refl
 or_assoc false b c = refl
 
-in_app : (m : ℕ) (xs ys : List ℕ) → is_in m (xs ++ ys) ≡ (is_in m xs || is_in m ys)
+pub in_app : (m : ℕ) (xs ys : List ℕ) → is_in m (xs ++ ys) ≡ (is_in m xs || is_in m ys)
 in_app m [] ys = refl
 in_app m (x ∷ xs) ys = ap (λ b. (x == m) || b) (in_app m xs ys) ∙ sym (or_assoc (x == m) (is_in m xs) (is_in m ys))
 
@@ -52,10 +41,10 @@ pub apart_right : (xs ys : List ℕ) → AreApart (xs ++ ys) → AreApart ys
 apart_right [] ys h = h
 apart_right (x ∷ xs) ys h = apart_right xs ys h.1
 
-swapped : (a b : ℕ) → nat_eq a b ≡ false → nat_eq b a ≡ false
+pub swapped : (a b : ℕ) → nat_eq a b ≡ false → nat_eq b a ≡ false
 swapped a b h = grind (arith, nat_tests)
 
-or_false : (a b : Bool) → a ≡ false → b ≡ false → (a || b) ≡ false
+pub or_false : (a b : Bool) → a ≡ false → b ≡ false → (a || b) ≡ false
 or_false true b h k = h
 or_false false b h k = k
 
@@ -79,7 +68,7 @@ apart_out (x ∷ xs) ys h = out_more ys x xs (or_parts (is_in x xs) (is_in x ys)
 abbrev pub Takes : List ℕ → List Entry → List Entry → Type 0
 Takes ns old new = (m : ℕ) → live_parts m new ≡ none_if (is_in m ns) (live_parts m old)
 
-none_none : (b : Bool) → none_if {A = List ℕ} b None ≡ None
+pub none_none : {A : Type 0} (b : Bool) → none_if {A = A} b None ≡ None
 none_none true = refl
 none_none false = refl
 
@@ -104,19 +93,19 @@ unfolding tree_numbers
 same_tree zero old new ns t n out = refl
 same_tree (suc k) old new ns t n out = same_over k old new ns n (live_parts n old) refl t (same_tree k old new ns t) out
 
-none_twice : (f g : Bool) (o : Option (List ℕ)) → none_if g (none_if f o) ≡ none_if (f || g) o
+pub none_twice : {A : Type 0} (f g : Bool) (o : Option A) → none_if g (none_if f o) ≡ none_if (f || g) o
 none_twice true g o = none_none g
 none_twice false g o = refl
 
 -- one after another
 pub both : (ms ns : List ℕ) (a b c : State) → Frees ms a b → Frees ns b c → Frees (ms ++ ns) a c
 both ms ns a b c f g = record {
-  told = g.told ∙ ap (λ ts. ts ++ map Free ns) f.told ∙ app_assoc a.past (map Free ms) (map Free ns) ∙ ap (λ ts. a.past ++ ts) (sym (map_app Free ms ns));
+  told = g.told ∙ ap (λ ts. ts ++ map Free ns) f.told ∙ append_assoc a.past (map Free ms) (map Free ns) ∙ ap (λ ts. a.past ++ ts) (sym (map-append Free ms ns));
   nodes = λ m. g.nodes m ∙ ap (none_if (is_in m ns)) (f.nodes m) ∙ none_twice (is_in m ms) (is_in m ns) (live_parts m a.world.nodes) ∙ ap (λ b. none_if b (live_parts m a.world.nodes)) (sym (in_app m ms ns));
 }
 
 pub nothing : (s : State) → Frees [] s s
-nothing s = record { told = sym (app_nil s.past); nodes = λ m. refl }
+nothing s = record { told = sym (append-nil s.past); nodes = λ m. refl }
 
 parts_without_more : (n m : ℕ) (e : Entry) (es : List Entry) → live_parts m (without n es) ≡ none_if (n == m) (live_parts m es) → live_parts m (without n (e ∷ es)) ≡ none_if (n == m) (live_parts m (e ∷ es))
 parts_without_more n m e es h = grind (arith, nat_tests)
@@ -125,7 +114,7 @@ parts_without : (n m : ℕ) (es : List Entry) → live_parts m (without n es) �
 parts_without n m [] = sym (none_none (n == m))
 parts_without n m (e ∷ es) = parts_without_more n m e es (parts_without n m es)
 
-or_none : (b : Bool) → b ≡ (b || false)
+pub or_none : (b : Bool) → b ≡ (b || false)
 or_none true = refl
 or_none false = refl
 
@@ -162,7 +151,7 @@ abbrev pub Keeps_parts : World → World → Type 0
 Keeps_parts old new = (m : ℕ) → live_parts m new.nodes ≡ live_parts m old.nodes
 
 pub kept_frees : (s : State) (change : World → World) → Keeps_parts s.world (change s.world) → Frees [] s (silent change s)
-kept_frees s change k = record { told = sym (app_nil s.past); nodes = k }
+kept_frees s change k = record { told = sym (append-nil s.past); nodes = k }
 
 pub abandoned_keeps : (x : Option Named) (w : World) → Keeps_parts w (abandoned_as x w)
 abandoned_keeps None w = λ m. refl
@@ -259,7 +248,7 @@ form_freed k n (Some form) s frees h =
     let t = each_freed (free_to Every k) (parts_of form) s in
     let u = unlinked Every (free_to Every k) n form t in
     both below (n ∷ []) s u (gone n u)
-    (subst (λ (ns : List ℕ). Frees ns s u) (app_nil below) (both below [] s t u (list_freed k (parts_of form) s frees (apart_left below (n ∷ []) h)) (unlinked_frees (free_to Every k) n form t)))
+    (subst (λ (ns : List ℕ). Frees ns s u) (append-nil below) (both below [] s t u (list_freed k (parts_of form) s frees (apart_left below (n ∷ []) h)) (unlinked_frees (free_to Every k) n form t)))
     (gone_frees n u)
 
 pub tree_freed : (k : ℕ) → FreesTrees k

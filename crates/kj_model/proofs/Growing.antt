@@ -14,22 +14,22 @@ use Rattle.kj_model.specs.Apply.{Refused, apply, applied, refusal}
 use Rattle.kj_model.specs.Value.{all_applied, rest_applied, ended, ended_if, acted, promise_ended, promise_taken, took_if, holds_firing, answered, with_item, run_step, chosen, step_passed, freed, then_valued, then_of, side_valued, side_of, value_side, rest_valued, all_valued, join_valued, winner_valued, value_form, value_to, value, value_link}
 use Rattle.kj_model.specs.Grown.{Grows}
 
-app_nil : (xs : List Item) → xs ++ [] ≡ xs
-app_nil [] = refl
-app_nil (x ∷ xs) = ap (λ ys. x ∷ ys) (app_nil xs)
+append-nil : (xs : List Item) → xs ++ [] ≡ xs
+append-nil [] = refl
+append-nil (x ∷ xs) = ap (λ ys. x ∷ ys) (append-nil xs)
 
-app_assoc : (xs ys zs : List Item) → (xs ++ ys) ++ zs ≡ xs ++ (ys ++ zs)
-app_assoc [] ys zs = refl
-app_assoc (x ∷ xs) ys zs = ap (λ ts. x ∷ ts) (app_assoc xs ys zs)
+append_assoc : (xs ys zs : List Item) → (xs ++ ys) ++ zs ≡ xs ++ (ys ++ zs)
+append_assoc [] ys zs = refl
+append_assoc (x ∷ xs) ys zs = ap (λ ts. x ∷ ts) (append_assoc xs ys zs)
 
 pub stays : (a : State) → Grows a a
-stays a = ([], sym (app_nil a.past))
+stays a = ([], sym (append-nil a.past))
 
 pub quiet : (change : World → World) (a : State) → Grows a (silent change a)
-quiet change a = ([], sym (app_nil a.past))
+quiet change a = ([], sym (append-nil a.past))
 
 pub then_grows : (a b c : State) → Grows a b → Grows b c → Grows a c
-then_grows a b c p q = (p.0 ++ q.0, q.1 ∙ ap (λ l. l ++ q.0) p.1 ∙ app_assoc a.past p.0 q.0)
+then_grows a b c p q = (p.0 ++ q.0, q.1 ∙ ap (λ l. l ++ q.0) p.1 ∙ append_assoc a.past p.0 q.0)
 
 gone_grows : (n : ℕ) (a : State) → Grows a (gone n a)
 gone_grows n a = (Free n ∷ [], refl)

@@ -1,7 +1,8 @@
 -- Freeing a tree where each hub keeps its name or a branch elsewhere.
-use Rattle.std.proofs.Common.{zero, suc, ◌≡◌, ℕ, List, [], ◌∷◌, ◌++◌, Bool, true, false, not, cond, Option, None, Some, arith, refl, sym, ap, ◌∙◌, subst, ◌||◌, ◌==◌}
+use Rattle.std.proofs.Common.{zero, suc, ◌≡◌, ℕ, List, [], ◌∷◌, ◌++◌, Bool, true, false, not, cond, Option, None, Some, arith, refl, sym, ap, ◌∙◌, subst, ◌||◌}
 use Rattle.std.specs.Prelude.{flat_map, nat_eq}
 use Rattle.std.specs.List.{list_any}
+use Rattle.std.proofs.lemmas.List.{append-nil}
 use Rattle.std.proofs.lemmas.Bool.{false≢true}
 use Rattle.std.proofs.lemmas.Bool.Decides.{nat_tests}
 use Rattle.kj_model.specs.Nodes.{Entry, Form, Content, Ready, Later, Last, Cell, Branch, Then, Chain, Eager, Wrap, Hub, Side, Race, Join, Task, Request, form_at, with_form, without, parts_of, dropped, is_in}
@@ -10,7 +11,8 @@ use Rattle.kj_model.specs.Changes.{silent, gone}
 use Rattle.kj_model.specs.Free.{Guard, free_to, free_form, each_freed, unlinked, free_unreferenced, without_branch, without_branch_in, without_wrap_in, abandoned_as, ask_of}
 use Rattle.kj_model.specs.Fire.{branches_of}
 use Rattle.kj_model.specs.Trees.{some_parts, over_parts, tree_numbers, AreApart, AreAmong, HubsStay, Frees}
-use Rattle.kj_model.proofs.Freed.{app_nil, apart_left, apart_right, apart_out, same_all, same_tree, both, nothing, gone_frees, kept_frees, abandoned_keeps, wrap_keeps, branch_keeps}
+use Rattle.kj_model.proofs.Freed.{apart_left, apart_right, apart_out, same_all, same_tree, both, nothing, gone_frees, kept_frees, abandoned_keeps, wrap_keeps, branch_keeps}
+use Rattle.kj_model.proofs.Members.{in_right, in_self}
 
 among_left : (ms ls ns : List ℕ) → AreAmong (ms ++ ls) ns → AreAmong ms ns
 among_left [] ls ns h = tt
@@ -21,20 +23,20 @@ among_right [] ls ns h = h
 among_right (m ∷ ms) ls ns h = among_right ms ls ns h.1
 
 -- forms after a node went or got another form
-no_form : (form : Form) → ◌≡◌ {A = Option Form} None (Some form) → ⊥
+pub no_form : (form : Form) → ◌≡◌ {A = Option Form} None (Some form) → ⊥
 no_form form e = cc
 
 form_without_other_more : (n h : ℕ) (e : Entry) (es : List Entry) → nat_eq n h ≡ false → form_at h (without n es) ≡ form_at h es → form_at h (without n (e ∷ es)) ≡ form_at h (e ∷ es)
 form_without_other_more n h e es d ih = grind (arith, nat_tests)
 
-form_without_other : (n h : ℕ) (es : List Entry) → nat_eq n h ≡ false → form_at h (without n es) ≡ form_at h es
+pub form_without_other : (n h : ℕ) (es : List Entry) → nat_eq n h ≡ false → form_at h (without n es) ≡ form_at h es
 form_without_other n h [] d = refl
 form_without_other n h (e ∷ es) d = form_without_other_more n h e es d (form_without_other n h es d)
 
 form_without_same_more : (n : ℕ) (e : Entry) (es : List Entry) → form_at n (without n es) ≡ None → form_at n (without n (e ∷ es)) ≡ None
 form_without_same_more n e es ih = grind (arith, nat_tests)
 
-form_without_same : (n : ℕ) (es : List Entry) → form_at n (without n es) ≡ None
+pub form_without_same : (n : ℕ) (es : List Entry) → form_at n (without n es) ≡ None
 form_without_same n [] = refl
 form_without_same n (e ∷ es) = form_without_same_more n e es (form_without_same n es)
 
@@ -45,14 +47,14 @@ form_without_if false n h form es e is = sym (form_without_other n h es e) ∙ i
 form_put_other_more : (n h : ℕ) (form : Form) (e : Entry) (es : List Entry) → nat_eq n h ≡ false → form_at h (with_form n form es) ≡ form_at h es → form_at h (with_form n form (e ∷ es)) ≡ form_at h (e ∷ es)
 form_put_other_more n h form e es d ih = grind (arith, nat_tests)
 
-form_put_other : (n h : ℕ) (form : Form) (es : List Entry) → nat_eq n h ≡ false → form_at h (with_form n form es) ≡ form_at h es
+pub form_put_other : (n h : ℕ) (form : Form) (es : List Entry) → nat_eq n h ≡ false → form_at h (with_form n form es) ≡ form_at h es
 form_put_other n h form [] d = refl
 form_put_other n h form (e ∷ es) d = form_put_other_more n h form e es d (form_put_other n h form es d)
 
 form_put_same_more : (n : ℕ) (form old : Form) (e : Entry) (es : List Entry) → (form_at n es ≡ Some old → form_at n (with_form n form es) ≡ Some form) → form_at n (e ∷ es) ≡ Some old → form_at n (with_form n form (e ∷ es)) ≡ Some form
 form_put_same_more n form old e es ih is = grind (arith, nat_tests)
 
-form_put_same : (n : ℕ) (form old : Form) (es : List Entry) → form_at n es ≡ Some old → form_at n (with_form n form es) ≡ Some form
+pub form_put_same : (n : ℕ) (form old : Form) (es : List Entry) → form_at n es ≡ Some old → form_at n (with_form n form es) ≡ Some form
 form_put_same n form old [] is = absurd (no_form old is)
 form_put_same n form old (e ∷ es) is = form_put_same_more n form old e es (form_put_same n form old es) is
 
@@ -66,7 +68,7 @@ kept_bool true false a x ds test is g h k = absurd (false≢true (g refl))
 kept_bool false true a x ds test is g h k = ap (λ t. t || list_any test ds) is ∙ k h
 kept_bool false false a x ds test is g h k = ap (λ t. t || list_any test ds) is
 
-same_number : (x n : ℕ) → nat_eq x n ≡ true → n ≡ x
+pub same_number : (x n : ℕ) → nat_eq x n ≡ true → n ≡ x
 same_number x n e = grind (arith, nat_tests)
 
 any_dropped : (n : ℕ) (ns xs : List ℕ) → is_in n ns ≡ true → list_any (λ b. not (is_in b ns)) xs ≡ true → list_any (λ b. not (is_in b ns)) (dropped n xs) ≡ true
@@ -188,30 +190,20 @@ form_spared guard ns k n (Some form) s frees h m stay =
     let u = unlinked guard (free_to guard k) n form t in
     let a = list_spared guard ns k (parts_of form) s frees (apart_left below (n ∷ []) h) (among_left below (n ∷ []) ns m) stay in
     let b = unlinked_spares guard (free_to guard k) ns n form t (among_right below (n ∷ []) ns m).0 a.1 in
-    (both below (n ∷ []) s u (gone n u) (subst (λ (ms : List ℕ). Frees ms s u) (app_nil below) (both below [] s t u a.0 b.0)) (gone_frees n u), stay_gone ns n u.world.nodes b.1)
+    (both below (n ∷ []) s u (gone n u) (subst (λ (ms : List ℕ). Frees ms s u) (append-nil below) (both below [] s t u a.0 b.0)) (gone_frees n u), stay_gone ns n u.world.nodes b.1)
 
 tree_spared : (guard : Guard) (ns : List ℕ) (k : ℕ) → SparesTrees guard ns k
 unfolding free_to tree_numbers
 tree_spared guard ns zero n s h m stay = (nothing s, stay)
 tree_spared guard ns (suc k) n s h m stay = form_spared guard ns k n (form_at n s.world.nodes) s (tree_spared guard ns k) h m stay
 
-in_more : (m x : ℕ) (ns : List ℕ) → is_in m ns ≡ true → is_in m (x ∷ ns) ≡ true
-in_more m x ns h = or_true (x == m) (is_in m ns) h
-  where
-    or_true : (a b : Bool) → b ≡ true → (a || b) ≡ true
-    or_true true b h = refl
-    or_true false b h = h
-
 among_more : (ms : List ℕ) (x : ℕ) (ns : List ℕ) → AreAmong ms ns → AreAmong ms (x ∷ ns)
 among_more [] x ns h = tt
-among_more (m ∷ ms) x ns h = (in_more m x ns h.0, among_more ms x ns h.1)
-
-in_first : (x : ℕ) (ns : List ℕ) → is_in x (x ∷ ns) ≡ true
-in_first x ns = grind (arith, nat_tests)
+among_more (m ∷ ms) x ns h = (in_right m (x ∷ []) ns h.0, among_more ms x ns h.1)
 
 among_self : (ns : List ℕ) → AreAmong ns ns
 among_self [] = tt
-among_self (n ∷ ns) = (in_first n ns, among_more ns n ns (among_self ns))
+among_self (n ∷ ns) = (in_self n ns, among_more ns n ns (among_self ns))
 
 -- the law, for each guard
 pub tree_freed_by : (guard : Guard) (k n : ℕ) (s : State) → AreApart (tree_numbers k s.world.nodes n) → HubsStay (tree_numbers k s.world.nodes n) s.world.nodes → Frees (tree_numbers k s.world.nodes n) s (free_to guard k n s)

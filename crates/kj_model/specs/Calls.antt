@@ -5,8 +5,7 @@ use Rattle.kj_base.specs.Commands.{Command}
 use Rattle.kj_base.specs.Queue.{head_of, taken, rewound}
 use Rattle.kj_model.specs.Nodes.{Form, Hub, Entry}
 use Rattle.kj_model.specs.World.{World, State, Setting, Named, Held, Promise, CellOf, AskCell, HubOf, Group, Canceler, RequestOf, Awaited, Asked, Ended, held_at}
-use Rattle.kj_base.specs.Record.{Item, Run, Free}
-use Rattle.kj_model.specs.Changes.{silent, with_queue, named, unnamed}
+use Rattle.kj_model.specs.Changes.{silent, with_queue, named, unnamed, frees_in}
 use Rattle.kj_model.specs.Listening.{listened}
 use Rattle.kj_model.specs.Free.{Holding, Every, free, each_freed, reference_gone}
 use Rattle.kj_model.specs.Effects.{hub_unnamed, disarmed_node}
@@ -262,12 +261,6 @@ answer_as reply r = (r.0, reply r.1)
 -- the reply of a taking call, from its answer
 abbrev pub take_as : {A : Type 0} → (A → Reply) → State → World × A → State × Reply
 take_as reply s r = (record { world = r.0; past = s.past }, reply r.1)
-
--- the numbers that were freed among these items
-abbrev pub frees_in : List Item → List ℕ
-frees_in [] = []
-frees_in (Free n ∷ items) = n ∷ frees_in items
-frees_in (Run n step input action ∷ items) = frees_in items
 
 -- the reply of the closing: the numbers freed since this state
 abbrev pub closed_from : State → State → State × Reply

@@ -1,7 +1,7 @@
 -- Single changes of a world.
 use Rattle.std.specs.Prelude.{ℕ, List, [], ◌∷◌, ◌++◌, Option, None, Some, Bool, true, false, not, ◌==◌, nat_lt, filter}
 use Rattle.kj_base.specs.Queue.{Events, Way, armed, disarmed}
-use Rattle.kj_base.specs.Record.{Free}
+use Rattle.kj_base.specs.Record.{Item, Run, Free}
 use Rattle.kj_model.specs.Nodes.{Form, with_form, without}
 use Rattle.kj_model.specs.World.{World, State, Named, Held}
 
@@ -54,3 +54,9 @@ gone_world n w = record w { queue = disarmed n w.queue; nodes = without n w.node
 -- the free of a node, told
 abbrev pub gone : ℕ → State → State
 gone n s = record { world = gone_world n s.world; past = s.past ++ Free n ∷ [] }
+
+-- the numbers that were freed among these items
+abbrev pub frees_in : List Item → List ℕ
+frees_in [] = []
+frees_in (Free n ∷ items) = n ∷ frees_in items
+frees_in (Run n step input action ∷ items) = frees_in items

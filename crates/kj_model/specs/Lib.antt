@@ -15,6 +15,8 @@ pub mod Calls
 pub mod Log
 pub mod Text
 pub mod Trees
+pub mod Falling
+pub mod HubWorld
 pub mod Owned
 pub mod OwnedTest
 pub mod Grown

@@ -5,6 +5,7 @@ use Rattle.kj_base.specs.Queue.{IsQueue}
 use Rattle.kj_model.specs.Nodes.{Entry, Form, Hub, Branch, is_in}
 use Rattle.kj_model.specs.World.{World, State, Named, Held, Promise, CellOf, AskCell, HubOf, Group, Canceler, RequestOf, Awaited, depth_of}
 use Rattle.kj_base.specs.Record.{Item, Run, Free}
+use Rattle.kj_model.specs.Changes.{frees_in}
 use Rattle.kj_model.specs.Trees.{tree_numbers}
 
 -- the roots that a name holds; a hub is no root of its name
@@ -35,9 +36,13 @@ hub_roots_form other n = []
 abbrev pub hub_roots : List Entry → List ℕ
 hub_roots nodes = flat_map (λ (e : Entry). hub_roots_form e.form e.number) nodes
 
--- where nodes stand: under a name, awaited, left over, detached, or as a hub
+-- where trees but hubs stand: under a name, awaited, left over or detached
+abbrev pub tree_roots : World → List ℕ
+tree_roots w = name_roots w.names ++ awaited_roots w.awaited ++ w.left_over ++ w.detached
+
+-- where nodes stand: there, or as a hub
 abbrev pub roots : World → List ℕ
-roots w = name_roots w.names ++ awaited_roots w.awaited ++ w.left_over ++ w.detached ++ hub_roots w.nodes
+roots w = tree_roots w ++ hub_roots w.nodes
 
 -- the nodes of all these trees
 abbrev pub standing : World → List ℕ
@@ -71,12 +76,6 @@ abbrev pub HasReferences : World → ℕ → Form → Type 0
 HasReferences w n (Hub content is_named branches) = (is_named ≡ list_any (λ (x : Named). is_hub_name n x.held) w.names) × (branches ≡ branches_to n w.nodes)
 HasReferences w n other = Unit {0}
 
--- the numbers freed
-abbrev pub frees : List Item → List ℕ
-frees [] = []
-frees (Free n ∷ items) = n ∷ frees items
-frees (Run n step input action ∷ items) = frees items
-
 -- a run of this node's step
 abbrev pub is_run_of : ℕ → Item → Bool
 is_run_of n (Run node step input action) = node == n
@@ -106,6 +105,6 @@ pub record Owned (s : State) : Type 0 where
   pub queue : IsQueue s.world.queue
   pub queued : AllByRecursion (λ e. may_stand s.world e ≡ true) s.world.queue.list
   -- each number below the next is live or was freed, once
-  pub apart : IsDistinct nat_eq (numbers s.world.nodes ++ frees s.past)
-  pub built : (n : ℕ) → is_in n (numbers s.world.nodes ++ frees s.past) ≡ (nat_lt 0 n && nat_lt n s.world.next)
+  pub apart : IsDistinct nat_eq (numbers s.world.nodes ++ frees_in s.past)
+  pub built : (n : ℕ) → is_in n (numbers s.world.nodes ++ frees_in s.past) ≡ (nat_lt 0 n && nat_lt n s.world.next)
   pub in_order : IsInOrder s.past

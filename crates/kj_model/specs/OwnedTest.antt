@@ -4,8 +4,9 @@ use Rattle.std.specs.List.{list_any, list_all}
 use Rattle.kj_base.specs.Record.{Item, Run, Free}
 use Rattle.kj_model.specs.Nodes.{Entry, Form, Hub, is_in}
 use Rattle.kj_model.specs.World.{World, State, Setting, Spot, Row, Named, depth_of}
+use Rattle.kj_model.specs.Changes.{frees_in}
 use Rattle.kj_model.specs.Trees.{tree_numbers}
-use Rattle.kj_model.specs.Owned.{roots, standing, numbers, frees, is_run_of, may_stand, is_hub_name, branches_to}
+use Rattle.kj_model.specs.Owned.{roots, standing, numbers, is_run_of, may_stand, is_hub_name, branches_to}
 use Rattle.kj_model.specs.Log.{Script, Numbered, Logged, log_line, setting_of, new_log, limits_or}
 
 -- no number stands twice
@@ -50,7 +51,7 @@ has_queue w = nat_le w.queue.depth w.queue.breadth && nat_le w.queue.breadth (le
 
 -- each number that was built is live or was freed, once
 abbrev pub is_told_once : State → Bool
-is_told_once s = let ns = numbers s.world.nodes ++ frees s.past in are_apart ns && list_all (λ n. nat_lt 0 n && nat_lt n s.world.next) ns && (length ns + 1 == s.world.next)
+is_told_once s = let ns = numbers s.world.nodes ++ frees_in s.past in are_apart ns && list_all (λ n. nat_lt 0 n && nat_lt n s.world.next) ns && (length ns + 1 == s.world.next)
 
 -- all of it
 abbrev pub is_owned : State → Bool

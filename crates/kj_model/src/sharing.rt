@@ -1,5 +1,9 @@
 //! Worked scripts on races, joins and hubs.
-ghost use Rattle.std.specs.Prelude.{◌≡◌};
+ghost use Rattle.std.specs.Prelude.{◌≡◌, ℕ, List, [], ◌∷◌};
+ghost use Rattle.kj_model.specs.Changes.{frees_in};
+ghost use Rattle.kj_model.specs.Falling.{falling};
+ghost use Rattle.kj_model.specs.Free.{Holding, free};
+ghost use Rattle.kj_model.specs.HubWorld.{hub_world, hub_state};
 ghost use Rattle.kj_model.specs.Log.{log_of};
 ghost use Rattle.kj_model.specs.Places.{arenas_fit};
 ghost use Rattle.kj_model.specs.Text.{log_text};
@@ -37,4 +41,13 @@ pub fn hubs_that_hold_themselves()
     ensures hub_holds_what_fires { log_text (log_of arenas_fit hub_holds_what_fires) ≡ hub_holds_what_fires_log }
     ensures hub_fires_and_loses_its_branch { log_text (log_of arenas_fit hub_fires_and_loses_its_branch) ≡ hub_fires_and_loses_its_branch_log }
     ensures hub_holds_the_cancelled { log_text (log_of arenas_fit hub_holds_the_cancelled) ≡ hub_holds_the_cancelled_log }
+{}
+
+/// The last branch takes a hub without a name along, ahead of itself, unless the hub holds what the guard names.
+pub fn last_branch_takes_the_hub()
+    ensures first { frees_in (free (Holding []) 4 hub_state).past ≡ 4 ∷ [] }
+    ensures both { frees_in (free (Holding []) 6 hub_state).past ≡ 4 ∷ 1 ∷ 2 ∷ 3 ∷ 5 ∷ 6 ∷ [] }
+    ensures kept { frees_in (free (Holding (1 ∷ [])) 6 hub_state).past ≡ 4 ∷ 5 ∷ 6 ∷ [] }
+    ensures both_fall { falling (Holding []) hub_world 9 [] [] 6 ≡ 4 ∷ 1 ∷ 2 ∷ 3 ∷ 5 ∷ 6 ∷ [] }
+    ensures kept_stays { falling (Holding (1 ∷ [])) hub_world 9 [] [] 6 ≡ 4 ∷ 5 ∷ 6 ∷ [] }
 {}

@@ -1,6 +1,6 @@
 -- The answers of commands over a loop's fields.
-use Rattle.std.proofs.Common.{◌≡◌, ℕ, zero, suc, ◌+◌, ◌<◌, ◌≤◌, ◌^◌, List, [], ◌∷◌, ◌++◌, Option, None, Some, Bool, true, false, not, refl, sym, ap, ◌∙◌, map, subst, arith, length}
-use Rattle.std.specs.Prelude.{filter, ◌==◌, ◌&&◌, ◌||◌, nat_lt, nat_le, is_some}
+use Rattle.std.proofs.Common.{◌≡◌, ℕ, ◌+◌, ◌≤◌, ◌^◌, List, [], ◌∷◌, ◌++◌, Option, None, Some, Bool, true, false, not, refl, sym, ap, ◌∙◌, map, subst, arith, length}
+use Rattle.std.specs.Prelude.{◌==◌, ◌||◌, nat_lt, nat_le, is_some}
 use Rattle.std.proofs.lemmas.List.{length-map, map-append}
 use Rattle.std.proofs.lemmas.Bool.{or_right}
 use Rattle.std.proofs.lemmas.Bool.Decides.{nat_tests}
@@ -8,14 +8,14 @@ use Rattle.kj_base.specs.Record.{Item}
 use Rattle.kj_base.specs.Places.{Spot}
 use Rattle.kj_base.specs.Queue.{Events}
 use Rattle.kj_base.specs.Commands.{Command, Later, Then, Detach}
-use Rattle.kj_model.specs.Nodes.{Form, Entry, Later as LaterNode, Then as ThenNode, Task as TaskNode}
+use Rattle.kj_model.specs.Nodes.{Entry, Later as LaterNode, Then as ThenNode, Task as TaskNode}
 use Rattle.kj_model.specs.World.{World, State, Named as NamedIn, Held, Promise, CellOf, held_at}
 use Rattle.kj_model.specs.Changes.{silent, named, unnamed, with_new, without_name}
 use Rattle.kj_model.specs.Uses.{is_name}
 use Rattle.kj_model.specs.Places.{built}
 use Rattle.kj_model.specs.Listening.{listened}
 use Rattle.kj_model.specs.Free.{usual}
-use Rattle.kj_model.specs.Effects.{effect, leaf_built, over_named, over_built, node_of, with_detached, detached_built}
+use Rattle.kj_model.specs.Effects.{effect, leaf_built, over_named, node_of, with_detached, detached_built}
 use Rattle.kj_model.specs.Apply.{Refused, Unknown, Taken, Full, refusal, refused_full, apply, applied}
 use Rattle.loop_core.specs.declared.engine.Engine.{Engine}
 use Rattle.loop_core.specs.declared.nodes.Node.{Node}

@@ -1,9 +1,9 @@
 -- What is kept where a listener is armed.
-use Rattle.std.proofs.Common.{◌≡◌, ℕ, zero, suc, ◌+◌, ◌<◌, ◌≤◌, List, [], ◌∷◌, ◌++◌, Option, None, Some, Bool, true, false, refl, sym, ap, ◌∙◌, map, subst, arith, length}
+use Rattle.std.proofs.Common.{◌≡◌, ℕ, zero, suc, ◌+◌, ◌≤◌, List, [], ◌∷◌, Option, None, Some, Bool, true, false, refl, sym, map, subst, arith, length}
 use Rattle.std.specs.Prelude.{◌==◌, ◌||◌, nat_eq, insert, if◌then◌else◌}
-use Rattle.std.specs.List.{list_any, AllByRecursion}
+use Rattle.std.specs.List.{list_any}
 use Rattle.std.specs.Cmp.{nat_eq_equiv}
-use Rattle.std.proofs.lemmas.Bool.{or_cases, or_left, or_right}
+use Rattle.std.proofs.lemmas.Bool.{or_left, or_right}
 use Rattle.std.proofs.lemmas.Bool.Decides.{nat_tests}
 use Rattle.std.proofs.lemmas.List.{length-map}
 use Rattle.std.proofs.lemmas.Map.Made.{length-le_from_is_member}
@@ -11,12 +11,10 @@ use Rattle.kj_base.specs.Queue.{Events, BreadthFirst, next_armed, is_armed}
 use Rattle.kj_base.proofs.QueueLemmas.{armed_keeps}
 use Rattle.loop_core.specs.declared.engine.Engine.{Engine}
 use Rattle.loop_core.specs.declared.nodes.Node.{Node}
-use Rattle.loop_core.specs.declared.nodes.Listening.{Listening}
-use Rattle.loop_core.specs.declared.nodes.Listening.TheVariants.{Nobody, Owner, Above}
 use Rattle.loop_core.specs.Nodes.{is_event, owns, owner_found, listening_of, listening_if, listener_by, listener_found}
 use Rattle.loop_core.specs.Order.{events_of}
 use Rattle.loop_core.specs.Kept.{is_live, AreLive, IsKept, HasRoom}
-use Rattle.loop_core.proofs.Alls.{all_append, all_insert}
+use Rattle.loop_core.proofs.Alls.{all_insert}
 
 same_number : (n : ℕ) → (n == n) ≡ true
 same_number n = grind (arith, nat_tests)

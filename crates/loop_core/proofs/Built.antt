@@ -1,24 +1,21 @@
 -- A node is built.
-use Rattle.std.proofs.Common.{◌≡◌, ℕ, zero, suc, ◌+◌, ◌-◌, ◌<◌, ◌≤◌, ◌^◌, List, [], ◌∷◌, ◌++◌, Option, None, Some, Bool, true, false, not, refl, sym, ap, ◌∙◌, map, subst, arith, length, length-append}
-use Rattle.std.specs.Prelude.{filter, ◌==◌, ◌&&◌, ◌||◌, nat_lt, nat_eq, vec_capacity}
-use Rattle.std.specs.List.{list_any, AllByRecursion}
-use Rattle.std.proofs.lemmas.List.{map-append, append-nil}
+use Rattle.std.proofs.Common.{◌≡◌, ℕ, ◌+◌, ◌-◌, ◌<◌, ◌≤◌, ◌^◌, List, [], ◌∷◌, ◌++◌, Option, None, Some, Bool, true, false, refl, ap, ◌∙◌, map, arith, length, length-append}
+use Rattle.std.specs.Prelude.{◌==◌, ◌&&◌, nat_lt}
+use Rattle.std.proofs.lemmas.List.{map-append}
 use Rattle.std.proofs.lemmas.List.Folds.{list_any-append}
-use Rattle.std.proofs.lemmas.Bool.{or_parts, or_from, or_left}
+use Rattle.std.proofs.lemmas.Bool.{or_from, or_left}
 use Rattle.std.proofs.lemmas.Bool.Decides.{nat_tests}
 use Rattle.kj_base.specs.Places.{Spot, spot_of as found_spot}
-use Rattle.kj_base.specs.Queue.{Events, IsQueue}
-use Rattle.kj_model.specs.Nodes.{Form, Entry}
+use Rattle.kj_model.specs.Nodes.{Form}
 use Rattle.kj_model.specs.World.{World}
-use Rattle.kj_model.specs.Places.{built, placed, placed_over, placed_if, numbered}
+use Rattle.kj_model.specs.Places.{built, placed_over, placed_if, numbered}
 use Rattle.loop_core.specs.declared.engine.Engine.{Engine}
 use Rattle.loop_core.specs.declared.nodes.Node.{Node}
 use Rattle.loop_core.specs.declared.nodes.Form.{Form as FormCase}
 use Rattle.loop_core.specs.declared.names.Named.{Named}
-use Rattle.loop_core.specs.Nodes.{shown, nodes_of, tree_of, is_event}
-use Rattle.loop_core.specs.Order.{events_of}
-use Rattle.loop_core.specs.Engine.{tasks_of, spot_of}
-use Rattle.loop_core.specs.Kept.{is_live, is_task, TreeFits, TreesFit, RootFits, RootsFit, AreLive, AreBuilt, IsRising, IsKept, HasRoom}
+use Rattle.loop_core.specs.Nodes.{tree_of, is_event}
+use Rattle.loop_core.specs.Engine.{tasks_of}
+use Rattle.loop_core.specs.Kept.{is_live, is_task, TreeFits, TreesFit, RootsFit, AreBuilt, IsRising, IsKept, HasRoom}
 use Rattle.loop_core.specs.Seen.{plain, unplaced}
 use Rattle.loop_core.proofs.Alls.{all_more, all_append}
 

@@ -1,25 +1,14 @@
 -- What the definitions say of each command over a loop's world.
-use Rattle.std.proofs.Common.{◌≡◌, ℕ, zero, suc, ◌+◌, ◌<◌, ◌≤◌, ◌^◌, List, [], ◌∷◌, ◌++◌, Option, None, Some, Bool, true, false, not, cond, refl, sym, ap, ◌∙◌, map, subst, arith, length, drop}
-use Rattle.std.specs.Prelude.{filter, ◌==◌, ◌&&◌, ◌||◌, nat_lt, nat_le, if◌then◌else◌}
-use Rattle.std.specs.List.{list_any, AllByRecursion}
-use Rattle.std.proofs.lemmas.List.{map-append, append-nil, length-map}
-use Rattle.std.proofs.lemmas.Bool.{or_parts, or_from}
-use Rattle.std.proofs.lemmas.Bool.Decides.{nat_tests}
+use Rattle.std.proofs.Common.{◌≡◌, ℕ, ◌+◌, ◌^◌, List, [], ◌∷◌, Option, None, Some, Bool, true, false, not, refl, ap, ◌∙◌, length, drop}
+use Rattle.std.specs.Prelude.{◌&&◌, ◌||◌, nat_lt, nat_le}
+use Rattle.std.specs.List.{list_any}
 use Rattle.kj_base.specs.Record.{Item}
 use Rattle.kj_base.specs.Commands.{Command, Later, Then, Detach}
-use Rattle.kj_base.specs.Places.{Spot, spot_placed}
-use Rattle.kj_model.specs.Nodes.{Form, Entry, Later as LaterNode, Then as ThenNode, Task as TaskNode}
-use Rattle.kj_model.specs.World.{World, State, Setting, Named, Held, Promise, CellOf, held_at, Awaited}
-use Rattle.kj_model.specs.Changes.{silent, named, unnamed, with_new, without_name, with_names}
-use Rattle.kj_model.specs.Places.{built, placed, numbered}
+use Rattle.kj_model.specs.World.{World, State, Setting, Held, Promise, CellOf, held_at, Awaited}
+use Rattle.kj_model.specs.Changes.{named, unnamed, with_new, without_name}
 use Rattle.kj_model.specs.Uses.{is_name, found_if, is_promise}
-use Rattle.kj_model.specs.Free.{Guard, usual}
-use Rattle.kj_model.specs.Effects.{effect, node_of, leaf_built, over_named}
-use Rattle.kj_model.specs.Apply.{Refused, Unknown, Taken, Full, refusal, refused_stopped, refused_inside, refused_unknown, refused_wrong, refused_taken, refused_busy, refused_full, is_busy, is_busy_at, is_full, is_free_of, apply, applied, with_awaited}
-use Rattle.loop_core.specs.declared.names.Named.{Named as NamedCase}
-use Rattle.loop_core.specs.Names.{shown_name, names_of, root_found, without_named, with_named, has_name}
-use Rattle.loop_core.specs.Seen.{Seen, Answer, tabled, plain, unplaced}
-use Rattle.loop_core.specs.Applied.{IsApplied}
+use Rattle.kj_model.specs.Apply.{Unknown, Taken, refusal, refused_stopped, refused_inside, refused_unknown, refused_wrong, refused_taken, refused_busy, refused_full, is_busy_at, is_full, is_free_of, with_awaited}
+use Rattle.loop_core.specs.Seen.{Answer, tabled}
 
 drop_all : (xs : List Item) → drop (length xs) xs ≡ []
 drop_all [] = refl

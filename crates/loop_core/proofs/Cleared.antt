@@ -1,11 +1,11 @@
 -- A node gets a form without a tree.
-use Rattle.std.proofs.Common.{◌≡◌, ℕ, ◌+◌, ◌<◌, ◌≤◌, List, [], ◌∷◌, ◌++◌, Option, None, Some, Bool, true, false, not, refl, sym, ap, ◌∙◌, map, subst, arith, length}
-use Rattle.std.specs.Prelude.{◌==◌, ◌&&◌, ◌||◌, if◌then◌else◌, filter}
-use Rattle.std.specs.List.{list_any, AllByRecursion}
+use Rattle.std.proofs.Common.{◌≡◌, ℕ, ◌<◌, List, [], ◌∷◌, Option, None, Some, Bool, true, false, refl, ap, ◌∙◌, map, arith}
+use Rattle.std.specs.Prelude.{◌==◌, ◌&&◌, ◌||◌}
+use Rattle.std.specs.List.{AllByRecursion}
 use Rattle.std.proofs.lemmas.List.{length-map}
 use Rattle.std.proofs.lemmas.Bool.{or_parts, or_from}
 use Rattle.kj_base.specs.Places.{Spot}
-use Rattle.kj_model.specs.Nodes.{Form, Entry, with_form, formed}
+use Rattle.kj_model.specs.Nodes.{Entry, with_form, formed}
 use Rattle.kj_model.specs.World.{World}
 use Rattle.kj_model.specs.Changes.{put}
 use Rattle.loop_core.specs.declared.engine.Engine.{Engine}
@@ -13,9 +13,8 @@ use Rattle.loop_core.specs.declared.nodes.Node.{Node}
 use Rattle.loop_core.specs.declared.names.Named.{Named}
 use Rattle.loop_core.specs.declared.nodes.Form.{Form as FormCase}
 use Rattle.loop_core.specs.Nodes.{shown, shown_node, nodes_of, node_changed, nodes_changed, is_event, tree_of}
-use Rattle.loop_core.specs.Order.{events_of}
 use Rattle.loop_core.specs.Engine.{world_of, tasks_of, spot_of}
-use Rattle.loop_core.specs.Kept.{is_live, is_task, TreeFits, TreesFit, RootFits, RootsFit, AreLive, AreBuilt, IsRising, IsKept, HasRoom}
+use Rattle.loop_core.specs.Kept.{is_live, is_task, TreeFits, TreesFit, AreBuilt, IsRising, IsKept, HasRoom}
 use Rattle.loop_core.proofs.Alls.{all_more}
 
 change_case : (b : Bool) (n : ℕ) (form : FormCase) (node : Node) → (node.number == n) ≡ b → shown_node (node_changed n form node) ≡ formed n (shown form) (shown_node node)

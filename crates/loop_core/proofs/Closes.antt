@@ -1,12 +1,12 @@
 -- The closing, tree by tree.
-use Rattle.std.proofs.Common.{◌≡◌, ℕ, zero, suc, ◌+◌, ◌<◌, List, [], ◌∷◌, ◌++◌, Option, None, Some, refl, sym, ap, ◌∙◌, append_assoc, map, subst, drop, length, get_or, add-one, drop-cons}
+use Rattle.std.proofs.Common.{◌≡◌, ℕ, ◌+◌, ◌<◌, List, [], ◌∷◌, ◌++◌, Option, refl, sym, ap, ◌∙◌, append_assoc, map, subst, drop, length, get_or, add-one, drop-cons}
 use Rattle.std.specs.Prelude.{reverse, not, ◌==◌}
 use Rattle.std.proofs.lemmas.List.{map-append, append-nil}
 use Rattle.kj_base.specs.Record.{Item, Free, Tells}
 use Rattle.kj_base.specs.declared.numbers.NodeId.{NodeId}
 use Rattle.kj_base.specs.declared.numbers.Limits.{Limits}
-use Rattle.kj_model.specs.Nodes.{Form, Entry, without}
-use Rattle.kj_model.specs.World.{World, State, Named as NamedIn, Held, Promise}
+use Rattle.kj_model.specs.Nodes.{Entry, without}
+use Rattle.kj_model.specs.World.{World, State}
 use Rattle.kj_model.specs.Changes.{silent, unnamed, gone}
 use Rattle.kj_model.specs.Free.{Guard, Holding, Every, free, free_to, each_freed}
 use Rattle.kj_model.specs.Calls.{close, hubs_closed, detached_closed, names_closed, left_over_closed, each_closed, hubs_of}
@@ -23,7 +23,7 @@ use Rattle.loop_core.specs.Falling.{Falls}
 use Rattle.loop_core.specs.Seen.{Seen}
 use Rattle.loop_core.specs.Closing.{node_id, frees_of, roots_of, closing_roots, closed_nodes, IsClosing, Closed}
 use Rattle.loop_core.proofs.Alls.{map_filter}
-use Rattle.loop_core.proofs.Told.{tells_then, tells_none}
+use Rattle.loop_core.proofs.Told.{tells_then}
 use Rattle.loop_core.proofs.Frees.{free_is, states_gone, freed_order}
 
 -- one more tree went

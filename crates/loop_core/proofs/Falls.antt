@@ -10,7 +10,7 @@ use Rattle.loop_core.specs.Nodes.{without_node}
 use Rattle.loop_core.specs.Engine.{each_without, each_disarmed, SameOthers}
 use Rattle.loop_core.specs.Order.{events_of}
 use Rattle.loop_core.specs.Kept.{IsKept}
-use Rattle.loop_core.specs.Falling.{Falls, Falling}
+use Rattle.loop_core.specs.Falling.{Falling}
 use Rattle.loop_core.proofs.Told.{tells_then}
 
 pub without_more : (ns : List ℕ) (n : ℕ) (nodes : List Node) → each_without (ns ++ n ∷ []) nodes ≡ without_node n (each_without ns nodes)

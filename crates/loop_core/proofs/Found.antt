@@ -1,13 +1,13 @@
 -- Finding a node by its number, where numbers rise.
-use Rattle.std.proofs.Common.{◌≡◌, ℕ, zero, suc, ◌<◌, ◌≤◌, ◌+◌, cond, Bool, true, false, not, List, [], ◌∷◌, Option, None, Some, length, get_or, drop, refl, sym, ap, ◌∙◌, arith, ◌==◌, ◌||◌}
+use Rattle.std.proofs.Common.{◌≡◌, ℕ, zero, suc, ◌<◌, ◌≤◌, cond, Bool, true, false, not, List, [], ◌∷◌, Option, None, Some, length, get_or, drop, refl, sym, ap, ◌∙◌, arith, ◌||◌}
 use Rattle.std.specs.Prelude.{nat_lt, nat_eq}
 use Rattle.std.specs.List.{AllByRecursion, slice_set, remove}
 use Rattle.std.specs.List.Sorted.{IsNonDecreasingBy}
 use Rattle.std.proofs.lemmas.Bool.Decides.{nat_tests}
 use Rattle.loop_core.specs.declared.nodes.Node.{Node}
 use Rattle.loop_core.specs.declared.nodes.Form.{Form}
-use Rattle.loop_core.specs.Nodes.{node_found, node_changed, nodes_changed, without_node, owner_found, owns, is_root, tree_of}
-use Rattle.loop_core.specs.Kept.{IsRising, AreBelow, StandsAt, TreeFits, TreesFit, is_live}
+use Rattle.loop_core.specs.Nodes.{node_found, node_changed, nodes_changed, without_node, owner_found, is_root, tree_of}
+use Rattle.loop_core.specs.Kept.{IsRising, AreBelow, TreeFits, TreesFit, is_live}
 
 later_at : (m : ℕ) (nodes : List Node) → AllByRecursion (λ (later : Node). m < later.number) nodes → (j : ℕ) (d : Node) → j < length nodes → m < (get_or nodes j d).number
 later_at m [] h j d low = absurd (omega arith)

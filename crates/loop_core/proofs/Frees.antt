@@ -1,11 +1,11 @@
 -- Freeing in the definitions is a list of nodes that go.
-use Rattle.std.proofs.Common.{◌≡◌, ℕ, zero, suc, ◌+◌, ◌<◌, List, [], ◌∷◌, ◌++◌, Option, None, Some, Bool, true, false, not, cond, refl, sym, ap, ◌∙◌, append_assoc, map, subst, arith}
+use Rattle.std.proofs.Common.{◌≡◌, ℕ, zero, suc, ◌+◌, List, [], ◌∷◌, ◌++◌, Option, None, Some, Bool, true, false, not, cond, refl, sym, ap, ◌∙◌, append_assoc, map, subst, arith}
 use Rattle.std.specs.Prelude.{reverse, filter, ◌==◌, ◌&&◌, if◌then◌else◌, option_map}
-use Rattle.std.specs.List.{list_any, AllByRecursion}
+use Rattle.std.specs.List.{AllByRecursion}
 use Rattle.std.proofs.lemmas.List.{reverse-append, append-nil}
 use Rattle.std.proofs.lemmas.Bool.{or_parts}
 use Rattle.std.proofs.lemmas.Bool.Decides.{nat_tests}
-use Rattle.kj_base.specs.Record.{Item, Free, Tells}
+use Rattle.kj_base.specs.Record.{Item, Free}
 use Rattle.kj_base.specs.Queue.{Events, disarmed}
 use Rattle.kj_model.specs.Nodes.{Form, form_at, Entry}
 use Rattle.kj_model.specs.World.{World, State, Spot}
@@ -15,7 +15,7 @@ use Rattle.loop_core.specs.declared.engine.Engine.{Engine}
 use Rattle.loop_core.specs.declared.nodes.Node.{Node}
 use Rattle.loop_core.specs.declared.nodes.Form.{Form as FormCase}
 use Rattle.loop_core.specs.declared.nodes.Form.TheVariants.{Later as LaterCase, Then as ThenCase, Task as TaskCase}
-use Rattle.loop_core.specs.Nodes.{shown, shown_node, shown_found, nodes_of, node_found, tree_found, tree_of, without_node, is_event}
+use Rattle.loop_core.specs.Nodes.{shown_node, shown_found, nodes_of, node_found, tree_found, tree_of, without_node, is_event}
 use Rattle.loop_core.specs.Walks.{tree_path, path_from}
 use Rattle.loop_core.specs.Engine.{world_of, spot_of, tasks_of, each_without, each_disarmed, SameOthers}
 use Rattle.loop_core.specs.Order.{events_of}

@@ -1,15 +1,15 @@
 -- What is kept where a node goes.
-use Rattle.std.proofs.Common.{zero, suc, ◌≡◌, ℕ, ◌+◌, ◌<◌, ◌≤◌, List, [], ◌∷◌, length, map, Bool, true, false, not, refl, cond, arith, ap, sym, ◌∙◌, subst, Option, None, Some}
-use Rattle.std.specs.Prelude.{filter, remove, position, ◌==◌, ◌&&◌, nat_eq, nat_lt, vec_capacity}
-use Rattle.std.specs.List.{AllByRecursion, list_any, IsDistinct, position_or_len}
+use Rattle.std.proofs.Common.{suc, ◌≡◌, ℕ, ◌+◌, ◌<◌, List, [], ◌∷◌, length, Bool, true, false, not, refl, cond, arith, sym, ◌∙◌, subst, Option, None, Some}
+use Rattle.std.specs.Prelude.{filter, remove, ◌==◌, nat_eq, nat_lt}
+use Rattle.std.specs.List.{AllByRecursion, IsDistinct, position_or_len}
 use Rattle.std.proofs.lemmas.Bool.Decides.{nat_tests}
 use Rattle.std.proofs.lemmas.Map.Views.{any-filter_same}
 use Rattle.kj_base.specs.Queue.{Events, IsQueue, disarmed, without_found}
 use Rattle.loop_core.specs.declared.engine.Engine.{Engine}
 use Rattle.loop_core.specs.declared.nodes.Node.{Node}
 use Rattle.loop_core.specs.declared.names.Named.{Named}
-use Rattle.loop_core.specs.Nodes.{without_node, is_event, tree_of}
-use Rattle.loop_core.specs.Kept.{is_live, is_task, TreeFits, TreesFit, RootsFit, AreLive, AreBuilt, IsRising, IsKept, HasRoom}
+use Rattle.loop_core.specs.Nodes.{without_node, tree_of}
+use Rattle.loop_core.specs.Kept.{is_live, is_task, TreeFits, TreesFit, RootsFit, AreLive, IsRising, IsKept, HasRoom}
 use Rattle.loop_core.specs.Order.{events_of}
 use Rattle.kj_base.proofs.QueueLemmas.{disarmed_keeps}
 use Rattle.loop_core.proofs.Alls.{all_more, all_filter, none_filter, filter_shorter}

@@ -1,12 +1,11 @@
 -- Ready trees and their listeners, in code and in the definitions.
-use Rattle.std.proofs.Common.{◌≡◌, ℕ, zero, suc, ◌+◌, List, [], ◌∷◌, ◌++◌, Option, None, Some, Bool, true, false, refl, sym, ap, ◌∙◌, map, subst, arith}
-use Rattle.std.specs.Prelude.{◌==◌, ◌||◌, find, option_map, if◌then◌else◌}
-use Rattle.std.specs.List.{list_any}
-use Rattle.kj_base.specs.Queue.{Events, Way, BreadthFirst, AtLast, armed, next_armed}
-use Rattle.kj_model.specs.Nodes.{Form, Entry, form_at, owner_of, has_event, parts_of, is_in}
+use Rattle.std.proofs.Common.{◌≡◌, ℕ, zero, suc, ◌+◌, List, [], ◌∷◌, Option, None, Some, Bool, true, false, refl, ap, ◌∙◌}
+use Rattle.std.specs.Prelude.{◌==◌, ◌||◌, option_map, if◌then◌else◌}
+use Rattle.kj_base.specs.Queue.{BreadthFirst}
+use Rattle.kj_model.specs.Nodes.{Form, Entry, owner_of, has_event, parts_of, is_in}
 use Rattle.kj_model.specs.World.{World, Awaited}
-use Rattle.kj_model.specs.Changes.{arm_listener, with_queue}
-use Rattle.kj_model.specs.Listening.{ready, ready_found as ready_in, ready_form, is_last, last_form, listener_from, listener_over, listener_if, listener, listened, listened_if, listened_way, announced}
+use Rattle.kj_model.specs.Changes.{arm_listener}
+use Rattle.kj_model.specs.Listening.{ready, ready_found as ready_in, is_last, last_form, listener_from, listener_over, listener_if, listened, listened_if, listened_way, announced}
 use Rattle.loop_core.specs.declared.nodes.Node.{Node}
 use Rattle.loop_core.specs.declared.nodes.Form.{Form as FormCase}
 use Rattle.loop_core.specs.declared.nodes.Form.TheVariants.{Later as LaterCase, Then as ThenCase, Task as TaskCase}

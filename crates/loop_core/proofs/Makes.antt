@@ -1,19 +1,17 @@
 -- What commands keep.
-use Rattle.std.proofs.Common.{◌≡◌, ℕ, ◌+◌, ◌<◌, ◌≤◌, ◌^◌, List, [], ◌∷◌, ◌++◌, Option, None, Some, Bool, true, false, not, refl, sym, ap, ◌∙◌, subst, arith, length, length-append}
-use Rattle.std.specs.Prelude.{◌==◌, ◌&&◌, ◌||◌, nat_lt, nat_le, is_some, filter}
-use Rattle.std.specs.List.{list_any, AllByRecursion}
+use Rattle.std.proofs.Common.{◌≡◌, ℕ, ◌+◌, ◌<◌, ◌≤◌, ◌^◌, List, [], ◌∷◌, ◌++◌, Option, None, Some, Bool, true, false, not, refl, sym, ap, ◌∙◌, subst, arith, length}
+use Rattle.std.specs.Prelude.{◌==◌, ◌&&◌, ◌||◌, nat_lt, nat_le, is_some}
 use Rattle.std.proofs.lemmas.Bool.{or_parts}
 use Rattle.std.proofs.lemmas.Bool.Decides.{nat_tests}
 use Rattle.loop_core.specs.declared.engine.Engine.{Engine}
 use Rattle.loop_core.specs.declared.nodes.Node.{Node}
 use Rattle.loop_core.specs.declared.names.Named.{Named}
 use Rattle.loop_core.specs.declared.nodes.Form.{Form as FormCase}
-use Rattle.loop_core.specs.declared.nodes.Form.TheVariants.{Later as LaterCase, Then as ThenCase, Task as TaskCase}
 use Rattle.loop_core.specs.Nodes.{tree_of, is_event}
 use Rattle.loop_core.specs.Names.{root_found, without_named, with_named, has_name}
 use Rattle.loop_core.specs.Full.{no_node_fits}
-use Rattle.loop_core.specs.Kept.{is_task, TreeFits, RootFits, RootsFit, IsKept, HasRoom}
-use Rattle.loop_core.proofs.Alls.{all_filter, filter_less, filter_shorter}
+use Rattle.loop_core.specs.Kept.{TreeFits, RootFits, RootsFit, IsKept, HasRoom}
+use Rattle.loop_core.proofs.Alls.{all_filter, filter_less}
 use Rattle.loop_core.proofs.Named.{found_is, length_with, all_with}
 use Rattle.loop_core.proofs.Built.{old_no_task, node_with, next_fresh, no_task_more, roots_more, built_keeps}
 use Rattle.loop_core.proofs.Applies.{IsBuilt}

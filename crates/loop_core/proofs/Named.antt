@@ -1,7 +1,7 @@
 -- The map of names in code and in the definitions.
-use Rattle.std.proofs.Common.{◌≡◌, ℕ, ◌+◌, ◌≤◌, List, [], ◌∷◌, Option, None, Some, Bool, true, false, not, length, refl, ap, add-one, arith, map}
-use Rattle.std.specs.Prelude.{insert, nat_lt, if◌then◌else◌, is_some, filter, ◌==◌, ◌||◌}
-use Rattle.std.specs.List.{list_any, AllByRecursion}
+use Rattle.std.proofs.Common.{◌≡◌, ℕ, ◌+◌, ◌≤◌, List, [], ◌∷◌, Option, None, Some, Bool, true, false, not, length, refl, ap, add-one, arith}
+use Rattle.std.specs.Prelude.{insert, nat_lt, if◌then◌else◌, is_some, ◌==◌, ◌||◌}
+use Rattle.std.specs.List.{AllByRecursion}
 use Rattle.kj_model.specs.World.{Named as NamedIn, Held, Promise, held_at}
 use Rattle.kj_model.specs.Changes.{without_name, with_new}
 use Rattle.kj_model.specs.Uses.{is_name}

@@ -1,22 +1,19 @@
 -- The path of a tree: its nodes are live, and their numbers fall.
-use Rattle.std.proofs.Common.{◌≡◌, ℕ, zero, suc, ◌+◌, ◌<◌, ◌≤◌, List, [], ◌∷◌, ◌++◌, Option, None, Some, Bool, true, false, not, refl, sym, ap, ◌∙◌, subst, arith, length, map, append_assoc, length-append}
-use Rattle.std.specs.Prelude.{◌==◌, ◌||◌, reverse, option_map, filter, if◌then◌else◌}
-use Rattle.std.specs.List.{list_any, AllByRecursion}
+use Rattle.std.proofs.Common.{◌≡◌, ℕ, zero, suc, ◌<◌, ◌≤◌, List, [], ◌∷◌, ◌++◌, Option, None, Some, Bool, true, false, refl, sym, ap, ◌∙◌, subst, arith, length, map, append_assoc, length-append}
+use Rattle.std.specs.Prelude.{◌==◌, ◌||◌, reverse, option_map, if◌then◌else◌}
+use Rattle.std.specs.List.{AllByRecursion}
 use Rattle.std.proofs.lemmas.List.{map-append, append-nil}
-use Rattle.std.proofs.lemmas.Bool.{or_left, or_right}
 use Rattle.std.proofs.lemmas.Bool.Decides.{nat_tests}
 use Rattle.kj_base.specs.Record.{Item, Free, Tells}
 use Rattle.kj_base.specs.Queue.{disarmed}
 use Rattle.kj_base.specs.declared.numbers.NodeId.{NodeId}
 use Rattle.loop_core.specs.declared.engine.Engine.{Engine}
 use Rattle.loop_core.specs.declared.nodes.Node.{Node}
-use Rattle.loop_core.specs.declared.nodes.Form.{Form as FormCase}
 use Rattle.loop_core.specs.Nodes.{tree_of, node_found, tree_found, without_node}
 use Rattle.loop_core.specs.Walks.{tree_path, path_from}
 use Rattle.loop_core.specs.Engine.{SameOthers}
 use Rattle.loop_core.specs.Order.{events_of}
-use Rattle.loop_core.specs.Kept.{is_live, AreLive, TreesFit, TreeFits, IsKept}
-use Rattle.loop_core.specs.Falling.{Falling, Falls}
+use Rattle.loop_core.specs.Kept.{is_live, AreLive, TreesFit, IsKept}
 use Rattle.loop_core.specs.Closing.{Descends, ClosesTree, HasFreed, node_id}
 use Rattle.loop_core.proofs.Alls.{all_more, all_front, all_back, filter_less}
 use Rattle.loop_core.proofs.Frees.{found_fits}

@@ -1,8 +1,8 @@
 -- A continuation whose tree was evaluated.
-use Rattle.std.proofs.Common.{◌≡◌, ℕ, ◌+◌, List, [], ◌∷◌, ◌++◌, Option, None, Some, Bool, true, false, Result, Ok, Err, refl, sym, ap, ◌∙◌, append_assoc, subst, map, zero, suc, arith, ◌<◌}
+use Rattle.std.proofs.Common.{◌≡◌, ℕ, ◌+◌, List, [], ◌∷◌, ◌++◌, Option, None, Some, false, Result, Ok, Err, refl, sym, ap, ◌∙◌, append_assoc, subst, map, zero, suc, arith}
 use Rattle.std.specs.Prelude.{reverse, option_map}
 use Rattle.std.proofs.lemmas.List.{append-nil, reverse-append}
-use Rattle.kj_base.specs.Record.{Item, Run, Free, Tells}
+use Rattle.kj_base.specs.Record.{Item, Free}
 use Rattle.kj_base.specs.declared.outcomes.Outcome.{Outcome}
 use Rattle.kj_base.specs.declared.memory.NoMemory.{NoMemory}
 use Rattle.kj_model.specs.Outcomes.{void}
@@ -10,18 +10,18 @@ use Rattle.kj_model.specs.Nodes.{Form, Entry, form_at, Then as ThenNode}
 use Rattle.kj_model.specs.World.{World, State, Setting}
 use Rattle.kj_model.specs.Changes.{put, silent}
 use Rattle.kj_model.specs.Free.{usual}
-use Rattle.kj_model.specs.Value.{freed, chosen, value_to, value_form, value, then_valued, outcome_given}
+use Rattle.kj_model.specs.Value.{freed, chosen, value_to, value_form, value}
 use Rattle.loop_core.specs.declared.engine.Engine.{Engine}
 use Rattle.loop_core.specs.declared.nodes.Node.{Node}
 use Rattle.loop_core.specs.declared.nodes.Form.{Form as FormCase}
 use Rattle.loop_core.specs.declared.nodes.Form.TheVariants.{Later as LaterCase, Then as ThenCase, Task as TaskCase}
 use Rattle.loop_core.specs.declared.walk.Frame.{Frame}
 use Rattle.loop_core.specs.Nodes.{nodes_of, nodes_changed, node_found, shown_found, without_node, tree_of}
-use Rattle.loop_core.specs.Walks.{tree_path, frames_found, frames_from, frame_found, frame_from}
+use Rattle.loop_core.specs.Walks.{frames_found, frames_from, frame_from}
 use Rattle.loop_core.specs.Engine.{world_of, each_without}
 use Rattle.loop_core.specs.Kept.{IsKept, RootFits, KeepsRoots, TreesFit, is_task}
 use Rattle.loop_core.specs.Falling.{Falls}
-use Rattle.loop_core.specs.Seen.{Seen, Answer, tabled, Agrees, plain}
+use Rattle.loop_core.specs.Seen.{Seen, Answer, tabled, Agrees}
 use Rattle.loop_core.specs.Gives.{GaveAs, Gives, Answered, step_run, rise, rises, Rising, FrameFits, FramesFit}
 use Rattle.loop_core.proofs.Alls.{all_more}
 use Rattle.loop_core.proofs.Told.{tells_then, tells_none, agrees_append}

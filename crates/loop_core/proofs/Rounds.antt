@@ -1,16 +1,15 @@
 -- Turns.
-use Rattle.std.proofs.Common.{◌≡◌, ℕ, zero, suc, ◌+◌, ◌<◌, ◌≤◌, List, [], ◌∷◌, ◌++◌, Option, None, Some, Bool, true, false, refl, sym, ap, ◌∙◌, subst, arith, length, vec_capacity}
-use Rattle.std.specs.Prelude.{is_some, nat_lt, remove, if◌then◌else◌, ◌==◌, option_map}
-use Rattle.std.specs.List.{AllByRecursion}
+use Rattle.std.proofs.Common.{◌≡◌, ℕ, ◌<◌, ◌≤◌, List, [], ◌∷◌, ◌++◌, Option, None, Some, Bool, true, false, refl, sym, ap, ◌∙◌, subst, arith, length, vec_capacity}
+use Rattle.std.specs.Prelude.{nat_lt, remove, if◌then◌else◌, ◌==◌, option_map}
 use Rattle.std.proofs.lemmas.List.{append-nil}
 use Rattle.std.proofs.lemmas.Bool.Decides.{nat_tests}
-use Rattle.kj_base.specs.Record.{Item, Tells}
+use Rattle.kj_base.specs.Record.{Item}
 use Rattle.kj_base.specs.Queue.{Events, IsQueue, head_of, taken, rewound, without_place}
-use Rattle.kj_model.specs.Nodes.{Form, Entry, form_at}
+use Rattle.kj_model.specs.Nodes.{Form, form_at}
 use Rattle.kj_model.specs.World.{World, State, Setting}
 use Rattle.kj_model.specs.Changes.{silent}
 use Rattle.kj_model.specs.Fire.{fire, fire_form, with_firing}
-use Rattle.kj_model.specs.Calls.{Turned, Fired, Idle, NoMemory, Stopped, turn, turn_unless, turn_at, after_turn, turned_by, rewound_world, taken_world}
+use Rattle.kj_model.specs.Calls.{Turned, turn, turn_unless, turn_at, after_turn, turned_by, rewound_world, taken_world}
 use Rattle.kj_base.proofs.QueueLemmas.{taken_keeps, rewound_keeps}
 use Rattle.loop_core.specs.declared.engine.Engine.{Engine}
 use Rattle.loop_core.specs.declared.order.Order.{Order}
@@ -18,14 +17,14 @@ use Rattle.loop_core.specs.declared.nodes.Node.{Node}
 use Rattle.loop_core.specs.declared.nodes.Form.{Form as FormCase}
 use Rattle.loop_core.specs.declared.nodes.Form.TheVariants.{Later as LaterCase, Then as ThenCase, Task as TaskCase}
 use Rattle.loop_core.specs.declared.turned.Turned.{Turned as TurnedCase}
-use Rattle.loop_core.specs.declared.turned.Turned.TheVariants.{Fired as FiredCase, Idle as IdleCase, NoMemory as NoMemoryCase, Stopped as StoppedCase}
-use Rattle.loop_core.specs.Nodes.{node_found, shown_found, nodes_of, tree_of}
+use Rattle.loop_core.specs.declared.turned.Turned.TheVariants.{Idle as IdleCase, Stopped as StoppedCase}
+use Rattle.loop_core.specs.Nodes.{node_found, shown_found, tree_of}
 use Rattle.loop_core.specs.Walks.{task_in}
 use Rattle.loop_core.specs.Order.{events_of}
 use Rattle.loop_core.specs.Engine.{world_of}
-use Rattle.loop_core.specs.Kept.{IsKept, HasRoom, AreLive, AreBuilt, TreesFit, RootFits}
-use Rattle.loop_core.specs.Seen.{Seen, Answer, tabled, Agrees, plain}
-use Rattle.loop_core.specs.Turns.{Does, Turns, IsMissing, valued_task, turned_of, lacked_memory}
+use Rattle.loop_core.specs.Kept.{IsKept, AreLive, AreBuilt, TreesFit, RootFits}
+use Rattle.loop_core.specs.Seen.{Seen, Answer, tabled, plain}
+use Rattle.loop_core.specs.Turns.{Does, Turns, valued_task, turned_of, lacked_memory}
 use Rattle.loop_core.proofs.Told.{tells_none}
 use Rattle.loop_core.proofs.Frees.{form_is, found_fits}
 
@@ -144,12 +143,6 @@ taken_kept old o k room e =
     let q = rewound (events_of old.order) in
     order_kept old o k room (subst IsQueue (sym e) (taken_keeps q (rewound_keeps (events_of old.order) k.queue)))
     (subst (λ (r : Events). AreLive r.list old.nodes.items) (sym e) (live_taken old.nodes.items q k.live))
-
--- the queue after its first point went to the front
-pub rewound_kept : (old : Engine) (o : Order) → IsKept old → old.limits.slots ≤ vec_capacity o.events → events_of o ≡ rewound (events_of old.order) → IsKept (record old { order = o })
-rewound_kept old o k room e =
-    order_kept old o k room (subst IsQueue (sym e) (rewound_keeps (events_of old.order) k.queue))
-    (subst (λ (r : Events). AreLive r.list old.nodes.items) (sym e) k.live)
 
 none_taken : (xs : List ℕ) (d b : ℕ) → head_of (record { list = xs; depth = d; breadth = b }) ≡ None → taken (record { list = xs; depth = d; breadth = b }) ≡ record { list = xs; depth = d; breadth = b }
 none_taken [] d b h = refl

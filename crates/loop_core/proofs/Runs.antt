@@ -1,59 +1,17 @@
 -- Actions and runs of steps.
-use Rattle.std.proofs.Common.{◌≡◌, ℕ, List, [], ◌∷◌, ◌++◌, Option, None, Some, Bool, true, false, Result, Ok, Err, refl, sym, ap, ◌∙◌, append_assoc, subst, map}
+use Rattle.std.proofs.Common.{◌≡◌, ℕ, List, [], ◌∷◌, ◌++◌, Option, None, Some, true, false, Ok, Err, refl, sym, ap, ◌∙◌, subst}
 use Rattle.std.proofs.lemmas.List.{append-nil}
-use Rattle.kj_base.specs.Record.{Item, Run, Free, Tells}
-use Rattle.kj_base.specs.Commands.{Command, Action}
+use Rattle.kj_base.specs.Record.{Item, Run, Tells}
+use Rattle.kj_base.specs.Commands.{Action}
 use Rattle.kj_base.specs.declared.outcomes.Outcome.{Outcome}
-use Rattle.kj_base.specs.declared.actions.Ending.{Ending}
-use Rattle.kj_base.specs.declared.actions.Ending.TheVariants.{Value as Give, Throw, Promise, Input}
 use Rattle.kj_base.specs.declared.memory.NoMemory.{NoMemory}
-use Rattle.kj_model.specs.Outcomes.{command_refused, promise_given}
 use Rattle.kj_model.specs.World.{World, State, Setting}
-use Rattle.kj_model.specs.Value.{Given, Gave, Took, acted, ended, ended_if, all_applied, step_passed, answered, outcome_given, given_outcome, some_given, with_item, with_stopped}
+use Rattle.kj_model.specs.Value.{Given, Gave, acted, answered, outcome_given, given_outcome, with_item, with_stopped}
 use Rattle.loop_core.specs.declared.engine.Engine.{Engine}
 use Rattle.loop_core.specs.Engine.{world_of}
-use Rattle.loop_core.specs.Seen.{Seen, Answer, tabled, Agrees, plain}
-use Rattle.loop_core.specs.Applied.{AreApplied}
-use Rattle.loop_core.specs.Gives.{GaveAs, Gives, Answered, IsActed, ended_outcome, step_run}
+use Rattle.loop_core.specs.Seen.{Seen, tabled}
+use Rattle.loop_core.specs.Gives.{Gives, IsActed, step_run}
 use Rattle.loop_core.proofs.Told.{tells_none}
-
-ended_is : (ending : Ending) (input : Outcome) (s : State) → ended ending false input s ≡ (s, Gave (ended_outcome ending input))
-ended_is (Give words) input s = refl
-ended_is (Throw exception) input s = refl
-ended_is (Promise name) input s = refl
-ended_is Input input s = refl
-
-acted_by : (all : Bool) (ending : Ending) (input : Outcome) → Outcome
-acted_by true ending input = ended_outcome ending input
-acted_by false ending input = command_refused
-
-if_ended : (all : Bool) (ending : Ending) (input : Outcome) (s : State) → ended_if all ending false input s ≡ (s, Gave (acted_by all ending input))
-unfolding acted_by
-if_ended true ending input s = ended_is ending input s
-if_ended false ending input s = refl
-
-acted_is : (action : Action) (input : Outcome) (old new : World) (all : Bool) → AreApplied action.commands old new all → (answer : Answer) (t : List Item) (s : State) → Seen old t s
-    → acted (tabled answer) action false input s ≡ ((all_applied (tabled answer) action.commands s).0, Gave (acted_by all action.ending input))
-acted_is action input old new all a answer t s h =
-    let r = all_applied (tabled answer) action.commands s in
-    ap (λ (b : Bool). ended_if b action.ending false input r.0) (a.reply answer t s h) ∙ if_ended all action.ending input r.0
-
--- an action, by its commands
-acts : (action : Action) (input : Outcome) (old new : World) (all : Bool) → AreApplied action.commands old new all → IsActed action input old new (acted_by all action.ending input)
-acts action input old new all a = record {
-  given = λ answer t s h. ap (λ (r : State × Given). r.1) (acted_is action input old new all a answer t s h);
-  after = λ answer t s h. subst (λ (r : State × Given). Seen new t r.0) (sym (acted_is action input old new all a answer t s h)) (a.after answer t s h);
-}
-
--- all its commands were applied
-pub acts_whole : (action : Action) (input : Outcome) (old new : World) → AreApplied action.commands old new true → IsActed action input old new (ended_outcome action.ending input)
-unfolding acted_by
-acts_whole action input old new a = acts action input old new true a
-
--- one of its commands was refused
-pub acts_refused : (action : Action) (input : Outcome) (old new : World) → AreApplied action.commands old new false → IsActed action input old new command_refused
-unfolding acted_by
-acts_refused action input old new a = acts action input old new false a
 
 ran_as : (n step : ℕ) (input : Outcome) (action : Action) (setting : Setting) (s : State) (o : Outcome) → setting.answer s.past step ≡ Some action
     → (acted setting action false input (with_item (Run n step input action) s)).1 ≡ Gave o

@@ -1,5 +1,5 @@
 -- Commands one after another.
-use Rattle.std.proofs.Common.{◌≡◌, ℕ, suc, ◌+◌, ◌<◌, List, [], ◌∷◌, Option, None, Some, Bool, true, false, Result, Ok, Err, refl, sym, ap, ◌∙◌, subst, map, drop, length, get_or, add-one, drop-cons, drop_of_length-le, ◌≤◌, arith}
+use Rattle.std.proofs.Common.{◌≡◌, ℕ, ◌+◌, ◌<◌, List, [], ◌∷◌, Option, None, Some, Bool, true, false, Result, Ok, Err, refl, sym, ap, ◌∙◌, subst, map, drop, length, get_or, add-one, drop-cons}
 use Rattle.std.specs.Prelude.{is_err}
 use Rattle.kj_base.specs.Record.{Item}
 use Rattle.kj_base.specs.Commands.{Command, command_of}

@@ -1,7 +1,6 @@
 -- A Task whose tree was evaluated.
 use Rattle.std.proofs.Common.{◌≡◌, ℕ, ◌+◌, List, [], ◌∷◌, ◌++◌, Option, None, Some, Bool, true, false, not, cond, Result, Ok, Err, refl, sym, ap, ◌∙◌, append_assoc, subst, map, arith}
-use Rattle.std.specs.Prelude.{◌==◌, filter, find, is_err, if◌then◌else◌}
-use Rattle.std.proofs.lemmas.List.{append-nil}
+use Rattle.std.specs.Prelude.{◌==◌, filter, is_err}
 use Rattle.std.proofs.lemmas.Bool.Decides.{nat_tests}
 use Rattle.kj_base.specs.Record.{Item, Free, Tells}
 use Rattle.kj_base.specs.Places.{Spot}
@@ -9,12 +8,12 @@ use Rattle.kj_base.specs.Queue.{Events, disarmed}
 use Rattle.kj_base.specs.declared.outcomes.Outcome.{Outcome}
 use Rattle.kj_base.specs.declared.outcomes.Outcome.TheVariants.{Value, Broken}
 use Rattle.kj_base.specs.declared.memory.NoMemory.{NoMemory}
-use Rattle.kj_model.specs.Nodes.{Form, Entry, with_form, without, formed, formed_if, dropped, Task as TaskNode}
+use Rattle.kj_model.specs.Nodes.{Form, Entry, with_form, without, formed, dropped, Task as TaskNode}
 use Rattle.kj_model.specs.World.{World, State, Setting, Named as NamedIn}
 use Rattle.kj_model.specs.Changes.{put, silent, gone, gone_world}
 use Rattle.kj_model.specs.Free.{usual}
 use Rattle.kj_model.specs.Value.{freed, value}
-use Rattle.kj_model.specs.Fire.{group_of, group_error, group_left, set_left, task_gone, task_ended, error_run, task_left, task_valued, without_left_over, has_task}
+use Rattle.kj_model.specs.Fire.{group_of, group_error, group_left, task_gone, task_ended, task_left, task_valued}
 use Rattle.loop_core.specs.declared.engine.Engine.{Engine}
 use Rattle.loop_core.specs.declared.nodes.Node.{Node}
 use Rattle.loop_core.specs.declared.names.Named.{Named}
@@ -24,12 +23,12 @@ use Rattle.loop_core.specs.Order.{events_of}
 use Rattle.loop_core.specs.Engine.{world_of, tasks_of, spot_of, SameOthers}
 use Rattle.loop_core.specs.Kept.{IsKept, RootFits}
 use Rattle.loop_core.specs.Falling.{Falls}
-use Rattle.loop_core.specs.Seen.{Seen, Answer, tabled, Agrees, plain, unplaced}
-use Rattle.loop_core.specs.Gives.{Gives, GaveAs}
-use Rattle.loop_core.specs.Turns.{Does, IsMissing, valued_task}
+use Rattle.loop_core.specs.Seen.{Seen, tabled, plain}
+use Rattle.loop_core.specs.Gives.{Gives}
+use Rattle.loop_core.specs.Turns.{Does, valued_task}
 use Rattle.loop_core.proofs.Alls.{map_filter}
 use Rattle.loop_core.proofs.Told.{tells_then, agrees_append}
-use Rattle.loop_core.proofs.Frees.{seen_freed, freed_order, world_with, plain_gone}
+use Rattle.loop_core.proofs.Frees.{seen_freed, freed_order, plain_gone}
 
 no_group : (n : ℕ) (xs : List Named) → group_of n (names_of xs) ≡ None
 no_group n [] = refl

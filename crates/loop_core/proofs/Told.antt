@@ -1,5 +1,5 @@
 -- What is told, one thing after another.
-use Rattle.std.proofs.Common.{◌≡◌, ℕ, List, [], ◌∷◌, ◌++◌, Option, None, Some, refl, sym, ap, ◌∙◌, append_assoc, subst}
+use Rattle.std.proofs.Common.{◌≡◌, List, [], ◌∷◌, ◌++◌, Option, None, Some, refl, sym, ap, ◌∙◌, append_assoc, subst}
 use Rattle.std.proofs.lemmas.List.{append-nil}
 use Rattle.kj_base.specs.Record.{Item, Run, Free, Tells}
 use Rattle.loop_core.specs.Seen.{Answer, Agrees}

@@ -1,5 +1,5 @@
 -- The way up to a listener, and the ways down.
-use Rattle.std.proofs.Common.{◌≡◌, ℕ, suc, List, [], ◌∷◌, ◌++◌, Option, None, Some, refl, ap, sym, ◌∙◌, append_assoc}
+use Rattle.std.proofs.Common.{◌≡◌, ℕ, suc, List, [], ◌∷◌, ◌++◌, Option, Some, ap, sym, ◌∙◌, append_assoc}
 use Rattle.loop_core.specs.declared.nodes.Node.{Node}
 use Rattle.loop_core.specs.declared.nodes.Listening.{Listening}
 use Rattle.loop_core.specs.declared.nodes.Listening.TheVariants.{Above}

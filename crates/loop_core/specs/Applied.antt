@@ -1,5 +1,5 @@
 -- What a command did, against the definitions.
-use Rattle.std.specs.Prelude.{◌≡◌, ℕ, List, Option, None, Some, Bool, Result, Ok, Err}
+use Rattle.std.specs.Prelude.{◌≡◌, List, Option, None, Some, Bool, Result, Ok, Err}
 use Rattle.kj_base.specs.Record.{Item}
 use Rattle.kj_base.specs.Commands.{Command}
 use Rattle.kj_base.specs.declared.refused.Refused.{Refused as RefusedCase}

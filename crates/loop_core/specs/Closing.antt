@@ -1,5 +1,5 @@
 -- The closing of a loop.
-use Rattle.std.specs.Prelude.{if◌then◌else◌, ◌≡◌, ◌≤◌, ◌<◌, ◌+◌, ℕ, List, [], ◌∷◌, ◌++◌, Option, map, reverse, drop, length, vec_capacity}
+use Rattle.std.specs.Prelude.{if◌then◌else◌, ◌≡◌, ◌≤◌, ◌<◌, ◌+◌, ℕ, List, [], ◌∷◌, ◌++◌, Option, map, reverse, length}
 use Rattle.kj_base.specs.Record.{Item, Free, Tells}
 use Rattle.kj_base.specs.declared.numbers.NodeId.{NodeId}
 use Rattle.loop_core.specs.declared.engine.Engine.{Engine}

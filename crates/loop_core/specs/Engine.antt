@@ -1,5 +1,5 @@
 -- The world that the fields of a loop are.
-use Rattle.std.specs.Prelude.{◌≡◌, ℕ, List, [], ◌∷◌, Option, None, Some, Bool, map, filter}
+use Rattle.std.specs.Prelude.{◌≡◌, ℕ, List, [], ◌∷◌, None, map, filter}
 use Rattle.kj_base.specs.Queue.{Events, disarmed}
 use Rattle.kj_base.specs.Places.{Spot}
 use Rattle.kj_model.specs.World.{World}

@@ -1,5 +1,5 @@
 -- A tree that goes, node by node.
-use Rattle.std.specs.Prelude.{◌≡◌, ℕ, List, [], ◌∷◌, ◌++◌, Option, map, reverse}
+use Rattle.std.specs.Prelude.{◌≡◌, ℕ, List, ◌++◌, Option, map, reverse}
 use Rattle.kj_base.specs.Record.{Item, Free, Tells}
 use Rattle.loop_core.specs.declared.engine.Engine.{Engine}
 use Rattle.loop_core.specs.Engine.{each_without, each_disarmed, SameOthers}

@@ -1,5 +1,5 @@
 -- When no further node fits.
-use Rattle.std.specs.Prelude.{ℕ, ◌+◌, ◌^◌, Bool, not, ◌||◌, nat_lt, nat_le, length}
+use Rattle.std.specs.Prelude.{◌+◌, ◌^◌, Bool, not, ◌||◌, nat_lt, nat_le, length}
 use Rattle.loop_core.specs.declared.engine.Engine.{Engine}
 
 -- no slot is left for a node, or no number

@@ -1,5 +1,5 @@
 -- What evaluations do, against the definitions.
-use Rattle.std.specs.Prelude.{◌≡◌, ℕ, List, [], ◌∷◌, ◌++◌, Option, None, Some, Result, Ok, Err, Bool, true, false}
+use Rattle.std.specs.Prelude.{◌≡◌, ℕ, List, [], ◌∷◌, ◌++◌, Option, None, Some, Result, Ok, Err, false}
 use Rattle.std.specs.Prelude.{reverse}
 use Rattle.std.specs.List.{AllByRecursion}
 use Rattle.kj_base.specs.Record.{Item, Tells}
@@ -11,7 +11,7 @@ use Rattle.kj_base.specs.declared.actions.Ending.TheVariants.{Value as Give, Thr
 use Rattle.kj_base.specs.declared.memory.NoMemory.{NoMemory}
 use Rattle.kj_model.specs.Outcomes.{promise_given, void}
 use Rattle.kj_model.specs.World.{World, State, Setting}
-use Rattle.kj_model.specs.Value.{Given, Gave, acted, step_passed, then_valued, outcome_given, chosen}
+use Rattle.kj_model.specs.Value.{Gave, acted, step_passed, then_valued, outcome_given}
 use Rattle.loop_core.specs.declared.walk.Frame.{Frame}
 use Rattle.loop_core.specs.declared.nodes.Node.{Node}
 use Rattle.loop_core.specs.Kept.{RootFits}

@@ -1,7 +1,7 @@
 -- The names of a loop, and the same as the definitions see them.
-use Rattle.std.specs.Prelude.{ℕ, List, [], ◌∷◌, Option, None, Some, Bool, true, false, not, ◌==◌, nat_lt, map, filter, ◌+◌, if◌then◌else◌}
+use Rattle.std.specs.Prelude.{ℕ, List, [], ◌∷◌, Option, None, Some, Bool, not, ◌==◌, nat_lt, map, filter, ◌+◌, if◌then◌else◌}
 use Rattle.std.specs.List.{list_any}
-use Rattle.kj_model.specs.World.{Named, Held, Promise}
+use Rattle.kj_model.specs.World.{Named, Promise}
 use Rattle.loop_core.specs.declared.names.Named.{Named as NamedCase}
 
 -- a name with the promise that it holds

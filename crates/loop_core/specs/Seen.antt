@@ -1,5 +1,5 @@
 -- What the code does, against the definitions over states.
-use Rattle.std.specs.Prelude.{◌≡◌, ℕ, List, [], ◌∷◌, ◌++◌, Option, None, Some, map}
+use Rattle.std.specs.Prelude.{◌≡◌, ℕ, List, [], ◌∷◌, ◌++◌, Option, Some, map}
 use Rattle.kj_base.specs.Record.{Item, Run, Free}
 use Rattle.kj_base.specs.Commands.{Action}
 use Rattle.kj_base.specs.Places.{Spot, table_fits}

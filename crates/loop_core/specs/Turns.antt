@@ -1,5 +1,5 @@
 -- What turns do, against the definitions.
-use Rattle.std.specs.Prelude.{◌≡◌, ℕ, List, [], ◌∷◌, ◌++◌, Option, None, Some, Bool, true, false, is_some}
+use Rattle.std.specs.Prelude.{◌≡◌, ℕ, List, ◌++◌, Option, None, Some, Bool, true, false, is_some}
 use Rattle.kj_base.specs.Record.{Item, Tells}
 use Rattle.kj_model.specs.World.{World, State, Setting}
 use Rattle.kj_model.specs.Value.{value}

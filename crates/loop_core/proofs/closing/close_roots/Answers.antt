@@ -1,5 +1,4 @@
-use Rattle.std.proofs.Common.{arith, refl, ap, ◌∙◌, sym, ◌+◌, ◌≡◌}
-use Rattle.loop_core.specs.declared.engine.Engine.{Engine}
+use Rattle.std.proofs.Common.{arith, ap}
 use Rattle.loop_core.proofs.Closes.{closing_at}
 use Rattle.loop_core.proofs.closing.close_roots.Goals as goal
 

@@ -1,4 +1,4 @@
-use Rattle.std.proofs.Common.{◌≡◌, ◌≤◌, drop, vec_capacity}
+use Rattle.std.proofs.Common.{◌≤◌, drop, vec_capacity}
 use Rattle.loop_core.specs.Closing.{IsClosing, HasFreed}
 use Rattle.loop_core.proofs.closing.close_roots.Given as goal
 

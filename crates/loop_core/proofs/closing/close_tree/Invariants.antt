@@ -1,4 +1,4 @@
-use Rattle.std.proofs.Common.{◌≡◌, ◌≤◌, ◌+◌, vec_len, vec_capacity}
+use Rattle.std.proofs.Common.{◌≤◌, ◌+◌, vec_len, vec_capacity}
 use Rattle.std.specs.Prelude.{reverse}
 use Rattle.loop_core.specs.Walks.{tree_path}
 use Rattle.loop_core.specs.Closing.{ClosesTree}

@@ -1,9 +1,8 @@
-use Rattle.std.proofs.Common.{arith, refl, sym, ap, ◌∙◌, ◌+◌, ◌≡◌, List, [], map, drop, subst, None, Some, length, drop_of_length-le}
-use Rattle.std.specs.Prelude.{is_err}
+use Rattle.std.proofs.Common.{arith, refl, sym, ap, ◌∙◌, List, map, subst, drop_of_length-le}
 use Rattle.kj_base.specs.Commands.{Command, command_of}
 use Rattle.loop_core.specs.declared.engine.Engine.{Engine}
 use Rattle.loop_core.specs.Engine.{world_of}
-use Rattle.loop_core.specs.Applied.{Applying, refusal_in}
+use Rattle.loop_core.specs.Applied.{Applying}
 use Rattle.loop_core.proofs.Several.{applying_all, applying_on, refused_at, all_done, commands_from, refusal_some, refusal_none}
 use Rattle.loop_core.proofs.commands.apply_all.Goals as goal
 

@@ -1,8 +1,7 @@
-use Rattle.std.proofs.Common.{arith, refl, sym, ap, ◌∙◌, ◌+◌, ◌≡◌, ◌≤◌, true, false, length, lt-ltb, le-ltb}
+use Rattle.std.proofs.Common.{arith, refl, sym, ap, ◌∙◌, ◌+◌, length, lt-ltb, le-ltb}
 use Rattle.loop_core.specs.declared.engine.Engine.{Engine}
 use Rattle.loop_core.specs.declared.nodes.Form.TheVariants.{Later as LaterCase}
 use Rattle.loop_core.specs.Names.{with_named}
-use Rattle.loop_core.specs.Kept.{RootsFit}
 use Rattle.loop_core.proofs.Applies.{later_is_taken, later_is_full, later_is_crowded, later_is_done}
 use Rattle.loop_core.proofs.Makes.{built_over, built_kept, roots_named}
 use Rattle.loop_core.proofs.Named.{length_with}

@@ -1,4 +1,4 @@
-use Rattle.std.proofs.Common.{arith, refl, sym, ap, ◌∙◌, ◌+◌, ◌≡◌, ◌≤◌, List, Some, length}
+use Rattle.std.proofs.Common.{arith, refl, sym, ap, ◌∙◌, List, Some, length}
 use Rattle.std.specs.Prelude.{is_some, ◌==◌}
 use Rattle.loop_core.specs.declared.engine.Engine.{Engine}
 use Rattle.loop_core.specs.declared.names.Named.{Named}

@@ -1,4 +1,4 @@
-use Rattle.std.proofs.Common.{arith, refl}
+use Rattle.std.proofs.Common.{refl}
 use Rattle.loop_core.proofs.Falls.{falling_on}
 use Rattle.loop_core.proofs.engine.free_tree.Goals as goal
 

@@ -1,5 +1,3 @@
-use Rattle.std.proofs.Common.{refl, sym, ap, ◌∙◌, ◌+◌}
-use Rattle.loop_core.specs.declared.engine.Engine.{Engine}
 use Rattle.loop_core.specs.Engine.{world_of}
 use Rattle.loop_core.proofs.Rises.{rise_gives, root_falls}
 use Rattle.loop_core.proofs.evaluate.close_frame.Goals as goal

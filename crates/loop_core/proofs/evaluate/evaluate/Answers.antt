@@ -1,4 +1,4 @@
-use Rattle.std.proofs.Common.{refl, sym, ap, ◌∙◌, ◌+◌, arith, subst, List, [], ◌∷◌, ◌≡◌, length}
+use Rattle.std.proofs.Common.{refl, sym, ap, ◌∙◌, ◌+◌, arith, subst, List, [], ◌∷◌}
 use Rattle.loop_core.specs.declared.engine.Engine.{Engine}
 use Rattle.loop_core.specs.declared.walk.Frame.{Frame}
 use Rattle.loop_core.specs.Walks.{frames_found}

@@ -1,4 +1,4 @@
-use Rattle.std.proofs.Common.{sym, ap, ◌∙◌, subst}
+use Rattle.std.proofs.Common.{sym, ap, ◌∙◌}
 use Rattle.loop_core.specs.declared.engine.Engine.{Engine}
 use Rattle.loop_core.proofs.Tasks.{task_stops, task_ends, outcome_of, error_of}
 use Rattle.loop_core.proofs.fire.run_task.Goals as goal

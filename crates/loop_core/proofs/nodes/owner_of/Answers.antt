@@ -1,4 +1,4 @@
-use Rattle.std.proofs.Common.{arith, ap, sym, ◌∙◌, drop, take, length, ◌-◌, ◌≡◌, List}
+use Rattle.std.proofs.Common.{arith, ap, ◌∙◌, drop, take, length, ◌-◌, ◌≡◌, List}
 use Rattle.std.proofs.lemmas.List.{take_all, length-drop}
 use Rattle.std.proofs.lemmas.Bool.Decides.{nat_tests}
 use Rattle.loop_core.specs.declared.nodes.Node.{Node}

@@ -1,4 +1,4 @@
-use Rattle.std.proofs.Common.{sym, [], ◌∷◌}
+use Rattle.std.proofs.Common.{sym}
 use Rattle.loop_core.specs.declared.nodes.Node.{Node}
 use Rattle.loop_core.specs.declared.nodes.Form.TheVariants.{Later}
 use Rattle.loop_core.proofs.Found.{put_here, put_nowhere}

@@ -1,5 +1,4 @@
 use Rattle.std.proofs.Common.{arith, refl, ap}
-use Rattle.kj_base.specs.Queue.{Events}
 use Rattle.loop_core.proofs.Fresh.{fresh_kept}
 use Rattle.loop_core.proofs.event_loop.Loop.new.Goals as goal
 
