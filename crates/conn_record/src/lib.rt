@@ -7,12 +7,10 @@ mod number;
 mod print;
 mod read;
 mod records;
-mod replies;
 #[cfg(test)]
 mod tests;
 
 pub use generated::make_recording;
 pub use print::{print_records, print_replies};
 pub use read::{RecordRefused, one_recording, read_records};
-pub use records::Records;
-pub use replies::Replies;
+pub use records::{ConnectionOctets, Records, Replies};

@@ -1,39 +1,45 @@
-//! A recording.
+//! Recordings, and the replies to them.
 ghost use Rattle.std.specs.Prelude.{◌≡◌, [], ◌∷◌, ◌++◌, length, OnOk, OnErr};
 
 use kj_base::{Bytes, NoMemory};
 use std::alloc::Global;
 use std::marker::Model;
 
-/// What each connection sent, in the order of the connections.
+/// What each connection sent.
+pub type Records = ConnectionOctets;
+
+/// What was written to each connection.
+pub type Replies = ConnectionOctets;
+
+/// The octets of each connection, in the order of the connections.
 #[derive(Debug, Drop)]
-pub struct Records {
+pub struct ConnectionOctets {
     items: Vec<Bytes>,
 }
 
-impl Model for Records {
+impl Model for ConnectionOctets {
     ghost use Rattle.std.specs.Prelude.{List, ℕ};
 
     ghost Value = { List (List ℕ) };
 
-    ghost view = { λ records. records.items.items };
+    ghost view = { λ conns. conns.items.items };
 }
 
-impl Records {
+impl ConnectionOctets {
     /// No connection. Takes no memory.
-    pub fn new(alloc: Global) -> Records
+    pub fn new(alloc: Global) -> ConnectionOctets
         ensures { result ≡ [] }
     {
-        Records {
+        ConnectionOctets {
             items: Vec::new(alloc),
         }
     }
 
     /// Takes no memory.
-    pub fn from_vec(items: Vec<Bytes>) -> Records
+    pub fn from_vec(items: Vec<Bytes>) -> ConnectionOctets
         ensures { result ≡ items.items }
     {
-        Records { items }
+        ConnectionOctets { items }
     }
 
     /// Takes no memory.
@@ -55,11 +61,11 @@ impl Records {
         self.items.len()
     }
 
-    pub fn push(&mut self, sent: Bytes) -> Result<(), NoMemory>
-        ensures ok { OnOk result (self.new ≡ self.old ++ sent ∷ []) }
+    pub fn push(&mut self, octets: Bytes) -> Result<(), NoMemory>
+        ensures ok { OnOk result (self.new ≡ self.old ++ octets ∷ []) }
         ensures err { OnErr result (self.new ≡ self.old) }
     {
-        self.items.push(sent)?;
+        self.items.push(octets)?;
         Ok(())
     }
 }

@@ -1,8 +1,18 @@
 use crate::{
     RecordRefused, Records, Replies, make_recording, print_records, print_replies, read_records,
 };
-use kj_base::Bytes;
+use kj_base::{Bytes, NoMemory};
+use std::alloc::Global;
 use std::test::Fail;
+
+/// How many connections are whole, where the octets are no recording.
+fn whole_of(alloc: Global, text: &[u8]) -> Result<Option<u32>, NoMemory> {
+    match read_records(alloc, text) {
+        Ok(_records) => Ok(None),
+        Err(RecordRefused::Bad { whole }) => Ok(Some(whole)),
+        Err(RecordRefused::NoMemory) => Err(NoMemory),
+    }
+}
 
 #[test]
 fn a_made_recording(rt: HostRuntime) -> Result<(), Fail> {
@@ -33,10 +43,7 @@ fn at_most_4096_connections(rt: HostRuntime) -> Result<(), Fail> {
     let most = read_records(alloc, text.as_slice())?;
     assert!(&rt; most.len() == 4096);
     text.extend(b"conn 0\n\n")?;
-    match read_records(alloc, text.as_slice()) {
-        Err(RecordRefused::Bad { whole }) => assert!(&rt; whole == 4096),
-        _ => assert!(&rt; false),
-    }
+    assert!(&rt; whole_of(alloc, text.as_slice())? == Some(4096));
     Ok(())
 }
 
@@ -59,10 +66,7 @@ fn texts_that_are_no_recording(rt: HostRuntime) -> Result<(), Fail> {
         (b"kjrec 1\nconn 1\nab", 0),
     ];
     for (text, whole) in cases {
-        match read_records(rt.alloc(), text) {
-            Err(RecordRefused::Bad { whole: found }) => assert!(&rt; found == whole),
-            _ => assert!(&rt; false),
-        }
+        assert!(&rt; whole_of(rt.alloc(), text)? == Some(whole));
     }
     Ok(())
 }

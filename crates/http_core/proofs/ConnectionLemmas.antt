@@ -1,14 +1,13 @@
 -- What a connection stands for, from one call to the next.
-use Rattle.std.proofs.Common.{◌≡◌, ◌≢◌, ℕ, ◌+◌, ◌<◌, ◌≤◌, ◌⊎◌, Bool, true, false, nat_eq, Option, Some, None, Ok, List, [], ◌∷◌, ◌++◌, length, refl, sym, ap, subst, ◌∙◌, arith, inl, inr}
+use Rattle.std.proofs.Common.{◌≡◌, ◌≢◌, ℕ, ◌<◌, true, false, nat_eq, Option, Some, None, Ok, List, [], ◌∷◌, ◌++◌, length, refl, sym, ap, subst, ◌∙◌, arith, inl, inr}
 use Rattle.std.specs.Prelude.{IfSome}
 use Rattle.std.proofs.lemmas.List.{append-nil, append_assoc, length-append}
 use Rattle.std.proofs.lemmas.Bool.{eqb-true}
 use Rattle.std.proofs.lemmas.Grind.{flat_map-append}
 use Rattle.http_heads.specs.declared.Framing.{Framing}
 use Rattle.http_heads.specs.declared.Framing.TheVariants as framings
-use Rattle.http_heads.specs.declared.field.Head.{Head}
 use Rattle.http_heads.specs.Heads.{HasNoHead}
-use Rattle.http_heads.specs.Framing.{framing_of, persists}
+use Rattle.http_heads.specs.Framing.{framing_of}
 use Rattle.http_core.specs.declared.message.Request.{Request}
 use Rattle.http_core.specs.declared.message.Answer.{Answer}
 use Rattle.http_core.specs.declared.message.End.{End}
@@ -20,7 +19,7 @@ use Rattle.http_core.specs.declared.connection.State.{State}
 use Rattle.http_core.specs.declared.connection.State.TheVariants.{Going, Settled, Ended, Drained, Broken}
 use Rattle.http_core.specs.declared.connection.Connection.{Connection}
 use Rattle.http_core.specs.Text.{fault_text}
-use Rattle.http_core.specs.Requests.{skip_pairs, IsBody, IsRequest, IsFault, Along, Requests, reply, replies, end_text, AwaitsBody, Awaits}
+use Rattle.http_core.specs.Requests.{skip_pairs, IsBody, IsFault, Along, Requests, reply, replies, end_text, Awaits}
 use Rattle.http_core.specs.Replies.{IsReplies}
 use Rattle.http_core.specs.Reading.{HasBegun, IsReading}
 use Rattle.http_core.specs.Serving.{Answered, AnsweredAll, Serves, is_idle}

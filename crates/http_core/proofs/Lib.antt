@@ -5,3 +5,4 @@ pub mod ReadLemmas
 pub mod ServeLemmas
 pub mod ConnectionLemmas
 pub mod UniqueLemmas
+pub mod TotalLemmas

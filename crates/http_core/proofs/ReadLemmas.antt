@@ -1,11 +1,10 @@
 -- What a piece does, from what stands at the front.
-use Rattle.std.proofs.Common.{◌≡◌, ℕ, ◌+◌, ◌-◌, ◌<◌, ◌≤◌, ◌⊎◌, false, nat_eq, Option, Some, None, Result, Ok, Err, List, [], ◌∷◌, ◌++◌, length, take, drop, refl, sym, ap, subst, ◌∙◌, arith, inl, inr}
-use Rattle.std.proofs.lemmas.List.{append-nil, append_assoc, length-append, length-drop, drop_at}
+use Rattle.std.proofs.Common.{◌≡◌, ℕ, ◌+◌, ◌-◌, ◌<◌, ◌≤◌, false, nat_eq, Option, Some, None, Result, Ok, Err, List, [], ◌∷◌, ◌++◌, length, drop, refl, sym, ap, subst, ◌∙◌, arith, inl, inr}
+use Rattle.std.proofs.lemmas.List.{append_assoc, length-append, drop_at}
 use Rattle.std.specs.Prelude.{IfOk}
 use Rattle.std.proofs.lemmas.Bool.{cases_lt}
 use Rattle.http_heads.specs.declared.field.Head.{Head}
 use Rattle.http_heads.specs.declared.HeadRead.{HeadRead}
-use Rattle.http_heads.specs.declared.HeadRead.TheVariants as heads
 use Rattle.http_heads.specs.declared.Framing.{Framing}
 use Rattle.http_heads.specs.declared.Framing.TheVariants as framings
 use Rattle.http_heads.specs.Heads.{IsHead, StartsWithHead, HasNoHead, Reads}
@@ -19,7 +18,7 @@ use Rattle.http_core.specs.declared.read.Part.TheVariants as parts
 use Rattle.http_core.specs.declared.read.Step.{Step}
 use Rattle.http_core.specs.declared.read.Step.TheVariants.{More, Whole, Fault}
 use Rattle.http_core.specs.Requests.{skip_pairs, IsBody, IsRequest, IsFault}
-use Rattle.http_core.specs.Reading.{NoHeadWithin, IsLong, HasPart, HasBegun, IsReading, Steps, BodySteps, Begins, TakesSome}
+use Rattle.http_core.specs.Reading.{NoHeadWithin, IsLong, HasBegun, IsReading, Steps, BodySteps, Begins, TakesSome}
 use Rattle.http_core.proofs.TextLemmas.{some_left}
 use Rattle.http_core.proofs.SkipLemmas.{skip_again, skips, skip_front, last_of_end}
 use Rattle.http_core.proofs.RequestLemmas.{head_long, front_long, framing_is_fault, no_body_is_fault, no_chunked_body}

@@ -1,6 +1,6 @@
 -- One request at the front of octets.
-use Rattle.std.proofs.Common.{◌≡◌, ◌≢◌, ℕ, ◌+◌, ◌-◌, ◌<◌, ◌≤◌, ◌⊎◌, Bool, true, false, ◌&&◌, nat_eq, nat_lt, List, [], ◌∷◌, ◌++◌, length, take, drop, refl, sym, ap, subst, ◌∙◌, arith, cond, inl, inr}
-use Rattle.std.proofs.lemmas.List.{append-nil, append_assoc, length-append, length-drop, take-append-drop}
+use Rattle.std.proofs.Common.{◌≡◌, ◌≢◌, ℕ, ◌-◌, ◌<◌, ◌≤◌, Bool, true, false, ◌&&◌, List, [], ◌∷◌, ◌++◌, length, take, drop, refl, sym, ap, subst, ◌∙◌, arith, cond, inl, inr}
+use Rattle.std.proofs.lemmas.List.{append-nil, append_assoc, length-append, take-append-drop}
 use Rattle.std.proofs.lemmas.Bool.{ltb-true}
 use Rattle.http_heads.specs.declared.field.Field.{Field}
 use Rattle.http_heads.specs.declared.field.Head.{Head}
@@ -11,10 +11,10 @@ use Rattle.http_heads.specs.Framing.{framing_of}
 use Rattle.http_heads.specs.Ending.{line_end_start, ends_lines}
 use Rattle.http_heads.proofs.EndingLemmas.{head_ends}
 use Rattle.http_heads.proofs.HeadLemmas.{head_unique}
-use Rattle.http_frames.specs.Chunks.{Body, HasNoBody, NeverHasBody}
+use Rattle.http_frames.specs.Chunks.{Body, HasNoBody}
 use Rattle.http_frames.proofs.ChunkLemmas.{body_append as chunks_append}
 use Rattle.http_core.specs.declared.message.Request.{Request}
-use Rattle.http_core.specs.Requests.{skip_pairs, IsBody, IsRequest, HasNoRequest, HasFault, IsFault}
+use Rattle.http_core.specs.Requests.{IsBody, IsRequest, HasNoRequest, HasFault, IsFault}
 use Rattle.http_core.proofs.SkipLemmas.{same_split}
 
 -- ---- heads are long

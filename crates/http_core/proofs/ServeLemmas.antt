@@ -1,9 +1,9 @@
 -- Requests one after another, and the output that answers them.
-use Rattle.std.proofs.Common.{◌≡◌, ◌≢◌, ℕ, suc, ◌+◌, ◌-◌, ◌<◌, ◌≤◌, ◌⊎◌, true, false, Option, Some, None, Result, Ok, Err, List, [], ◌∷◌, ◌++◌, length, drop, refl, sym, ap, subst, ◌∙◌, arith, inl, inr}
+use Rattle.std.proofs.Common.{◌≡◌, ℕ, suc, ◌-◌, ◌≤◌, true, false, Option, Some, None, Result, Ok, Err, List, [], ◌∷◌, ◌++◌, length, drop, refl, sym, ap, subst, ◌∙◌, arith}
 use Rattle.std.specs.Prelude.{IfSome, IsErr}
 use Rattle.std.proofs.lemmas.List.{append-nil, append_assoc}
 use Rattle.std.proofs.lemmas.Grind.{flat_map-append}
-use Rattle.http_heads.specs.Framing.{framing_of, persists}
+use Rattle.http_heads.specs.Framing.{persists}
 use Rattle.http_core.specs.declared.message.Request.{Request}
 use Rattle.http_core.specs.declared.message.Answer.{Answer}
 use Rattle.http_core.specs.declared.message.End.TheVariants.{Closed, Bad}
@@ -11,7 +11,7 @@ use Rattle.http_core.specs.declared.read.Part.{Part}
 use Rattle.http_core.specs.declared.read.Step.{Step}
 use Rattle.http_core.specs.declared.read.Step.TheVariants.{More, Whole, Fault}
 use Rattle.http_core.specs.Text.{fault_text}
-use Rattle.http_core.specs.Requests.{skip_pairs, IsRequest, Along, Requests, reply, replies, end_text}
+use Rattle.http_core.specs.Requests.{skip_pairs, IsRequest, Along, reply, replies}
 use Rattle.http_core.specs.Reading.{IsReading, Steps}
 use Rattle.kj_base.specs.declared.memory.NoMemory.{NoMemory}
 use Rattle.http_core.specs.declared.connection.Served.{Served}

@@ -1,5 +1,5 @@
 -- One chunk more.
-use Rattle.std.proofs.Common.{◌≡◌, ℕ, suc, ◌+◌, ◌-◌, ◌/◌, ◌<◌, ◌≤◌, min, false, nat_eq, List, ◌++◌, length, take, drop, sym, ap, ◌∙◌, arith, inl, inr, []}
+use Rattle.std.proofs.Common.{◌≡◌, ℕ, suc, ◌+◌, ◌-◌, ◌/◌, ◌<◌, min, false, nat_eq, List, ◌++◌, length, take, drop, sym, ap, ◌∙◌, arith, inl, inr, []}
 use Rattle.std.proofs.lemmas.List.{append_assoc, append-nil, length-drop, take_min}
 use Rattle.std.proofs.Math.ListN.{drop_of_length-le}
 use Rattle.std.proofs.lemmas.Bool.{cases_lt}

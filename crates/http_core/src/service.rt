@@ -67,7 +67,9 @@ impl Service for Target {
             });
         }
         let method = request.head.method.as_slice();
-        let mut body = Bytes::from_slice(alloc, method)?;
+        let room = method.len().saturating_add(target.len()).saturating_add(1);
+        let mut body = Bytes::with_capacity(alloc, room)?;
+        body.extend(method)?;
         body.push(b' ')?;
         body.extend(target)?;
         let chunked = target == b"/chunk".as_slice();

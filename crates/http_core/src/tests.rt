@@ -1,30 +1,57 @@
-use crate::{Connection, Echo, Fed, Service, Target};
+use crate::{Answer, Connection, Echo, Fed, Request, Service, Target};
 use kj_base::{Bytes, NoMemory};
 use std::alloc::Global;
 use std::process::Abort;
 use std::test::Fail;
 
-/// Octets that come in two pieces, and the end.
+/// Octets of a connection, and what is written for them.
 #[derive(Clone, Copy)]
 struct Case {
     octets: &'static [u8],
     output: &'static [u8],
 }
 
+// The calls without their clauses: no test cites them, and each proof is shorter without them.
+
+fn feed<S: Service>(connection: &mut Connection<S>, piece: &[u8]) -> Result<Fed, NoMemory> {
+    connection.feed(piece)
+}
+
+fn end<S: Service>(connection: &mut Connection<S>) -> Result<(), NoMemory> {
+    connection.end()
+}
+
+fn drain<S: Service>(connection: &mut Connection<S>) {
+    connection.drain();
+}
+
+fn take_output<S: Service>(connection: &mut Connection<S>) -> Bytes {
+    connection.take_output()
+}
+
+fn connection_of<S: Service>(alloc: Global, service: S) -> Connection<S> {
+    Connection::new(alloc, service)
+}
+
+fn cut(octets: &[u8], at: usize) -> (&[u8], &[u8]) {
+    octets.split_at(at.min(octets.len()))
+}
+
+/// What is written for octets that come in two pieces, cut there.
 fn replies<S: Service + Drop>(
     alloc: Global,
     service: S,
     octets: &[u8],
     at: usize,
 ) -> Result<Bytes, NoMemory> {
-    let mut connection = Connection::new(alloc, service);
+    let mut connection = connection_of(alloc, service);
     let mut output = Bytes::new(alloc);
-    let cut = at.min(octets.len());
-    connection.feed(&octets[..cut])?;
-    output.extend(connection.take_output().as_slice())?;
-    connection.feed(&octets[cut..])?;
-    connection.end()?;
-    output.extend(connection.take_output().as_slice())?;
+    let (first, second) = cut(octets, at);
+    feed(&mut connection, first)?;
+    output.extend(take_output(&mut connection).as_slice())?;
+    feed(&mut connection, second)?;
+    end(&mut connection)?;
+    output.extend(take_output(&mut connection).as_slice())?;
     Ok(output)
 }
 
@@ -40,14 +67,53 @@ fn expect<S: Service + Drop>(
     Ok(())
 }
 
+fn expect_target(rt: &impl Abort, alloc: Global, case: &Case) -> Result<(), NoMemory> {
+    for at in 0..=case.octets.len() {
+        expect(rt, alloc, Target, case, at)?;
+    }
+    Ok(())
+}
+
+fn expect_echo(rt: &impl Abort, alloc: Global, case: &Case) -> Result<(), NoMemory> {
+    for at in 0..=case.octets.len() {
+        expect(rt, alloc, Echo, case, at)?;
+    }
+    Ok(())
+}
+
 const OK_EMPTY: &[u8] = b"HTTP/1.1 200 OK\r\nContent-Length: 0\r\n\r\n";
 
 const FAULT: &[u8] = b"HTTP/1.1 400 Bad Request\r\nContent-Length: 0\r\nConnection: close\r\n\r\n";
 
+/// The text for a method or a coding that isn't built.
 const NOT_BUILT: &[u8] =
     b"HTTP/1.1 501 Not Implemented\r\nContent-Length: 0\r\nConnection: close\r\n\r\n";
 
-const TARGETS: [Case; 9] = [
+const TARGETS: [Case; 14] = [
+    // A target in absolute form, and one that is an asterisk.
+    Case {
+        octets: b"GET http://a/b HTTP/1.1\r\nHost: a\r\n\r\nOPTIONS * HTTP/1.1\r\nHost: a\r\n\r\n",
+        output: b"HTTP/1.1 200 OK\r\nContent-Length: 14\r\n\r\nGET http://a/bHTTP/1.1 200 OK\r\nContent-Length: 9\r\n\r\nOPTIONS *",
+    },
+    // 204 has no length, and its connection closes.
+    Case {
+        octets: b"GET /empty HTTP/1.0\r\n\r\nx",
+        output: b"HTTP/1.1 204 No Content\r\nConnection: close\r\n\r\n",
+    },
+    Case {
+        octets: b"HEAD /empty HTTP/1.1\r\nHost: a\r\n\r\nHEAD /none HTTP/1.1\r\nHost: a\r\n\r\n",
+        output: b"HTTP/1.1 204 No Content\r\n\r\nHTTP/1.1 404 Not Found\r\nContent-Length: 4\r\n\r\n",
+    },
+    // `close` wins over `keep-alive`.
+    Case {
+        octets: b"GET /a HTTP/1.0\r\nConnection: keep-alive, close\r\n\r\nGET /b HTTP/1.0\r\n\r\n",
+        output: b"HTTP/1.1 200 OK\r\nContent-Length: 6\r\nConnection: close\r\n\r\nGET /a",
+    },
+    // A body that looks like a request is a body.
+    Case {
+        octets: b"PUT /a HTTP/1.1\r\nHost: a\r\nContent-Length: 18\r\n\r\nGET / HTTP/1.1\r\n\r\nGET /b HTTP/1.1\r\nHost: a\r\n\r\n",
+        output: b"HTTP/1.1 200 OK\r\nContent-Length: 6\r\n\r\nPUT /aHTTP/1.1 200 OK\r\nContent-Length: 6\r\n\r\nGET /b",
+    },
     Case {
         octets: b"GET /a HTTP/1.1\r\nHost: h\r\n\r\nHEAD /a HTTP/1.1\r\nHost: h\r\n\r\nPOST /b HTTP/1.1\r\nHost: h\r\nContent-Length: 3\r\n\r\nabc",
         output: b"HTTP/1.1 200 OK\r\nContent-Length: 6\r\n\r\nGET /aHTTP/1.1 200 OK\r\nContent-Length: 7\r\n\r\nHTTP/1.1 200 OK\r\nContent-Length: 7\r\n\r\nPOST /b",
@@ -86,7 +152,57 @@ const TARGETS: [Case; 9] = [
     },
 ];
 
-const ECHOES: [Case; 20] = [
+const ECHOES: [Case; 31] = [
+    // A body of known length, one in chunks, a CRLF pair, and none in version 1.0, behind which nothing is read.
+    Case {
+        octets: b"POST / HTTP/1.1\r\nHost: a\r\nContent-Length: 2\r\n\r\nabPOST / HTTP/1.1\r\nHost: a\r\nTransfer-Encoding: chunked\r\n\r\n1\r\nc\r\n0\r\n\r\n\r\nGET / HTTP/1.0\r\n\r\nx",
+        output: b"HTTP/1.1 200 OK\r\nContent-Length: 2\r\n\r\nabHTTP/1.1 200 OK\r\nContent-Length: 1\r\n\r\ncHTTP/1.1 200 OK\r\nContent-Length: 0\r\nConnection: close\r\n\r\n",
+    },
+    // Chunks of several sizes, with zeros and in both cases of letters.
+    Case {
+        octets: b"POST / HTTP/1.1\r\nHost: a\r\nTransfer-Encoding: chunked\r\n\r\n001\r\na\r\nA\r\n0123456789\r\n0000\r\n\r\nGET / HTTP/1.1\r\nHost: a\r\n\r\n",
+        output: b"HTTP/1.1 200 OK\r\nContent-Length: 11\r\n\r\na0123456789HTTP/1.1 200 OK\r\nContent-Length: 0\r\n\r\n",
+    },
+    // An end within the line of a chunk, its data, its CRLF and the trailer.
+    Case {
+        octets: b"POST / HTTP/1.1\r\nHost: a\r\nTransfer-Encoding: chunked\r\n\r\n3",
+        output: FAULT,
+    },
+    Case {
+        octets: b"POST / HTTP/1.1\r\nHost: a\r\nTransfer-Encoding: chunked\r\n\r\n3\r\nab",
+        output: FAULT,
+    },
+    Case {
+        octets: b"POST / HTTP/1.1\r\nHost: a\r\nTransfer-Encoding: chunked\r\n\r\n3\r\nabc\r",
+        output: FAULT,
+    },
+    Case {
+        octets: b"POST / HTTP/1.1\r\nHost: a\r\nTransfer-Encoding: chunked\r\n\r\n0\r\nT: 1\r\n",
+        output: FAULT,
+    },
+    // Lines of chunks end with CRLF alone.
+    Case {
+        octets: b"POST / HTTP/1.1\r\nHost: a\r\nTransfer-Encoding: chunked\r\n\r\n3\nabc\r\n0\r\n\r\n",
+        output: FAULT,
+    },
+    // Lengths that differ, one that is no number, and one above the limit.
+    Case {
+        octets: b"POST / HTTP/1.1\r\nHost: a\r\nContent-Length: 2\r\nContent-Length: 3\r\n\r\nabc",
+        output: FAULT,
+    },
+    Case {
+        octets: b"POST / HTTP/1.1\r\nHost: a\r\nContent-Length: +2\r\n\r\nab",
+        output: FAULT,
+    },
+    Case {
+        octets: b"POST / HTTP/1.1\r\nHost: a\r\nContent-Length: 16777217\r\n\r\nab",
+        output: FAULT,
+    },
+    // Version 1.0 has no chunks.
+    Case {
+        octets: b"POST / HTTP/1.0\r\nTransfer-Encoding: chunked\r\n\r\n0\r\n\r\n",
+        output: FAULT,
+    },
     Case {
         octets: b"POST / HTTP/1.1\r\nHost: a\r\nTransfer-Encoding: chunked\r\n\r\n3;x=1\r\nabc\r\n0\r\nT: 1\r\n\r\nGET / HTTP/1.1\r\nHost: a\r\n\r\n",
         output: b"HTTP/1.1 200 OK\r\nContent-Length: 3\r\n\r\nabcHTTP/1.1 200 OK\r\nContent-Length: 0\r\n\r\n",
@@ -170,17 +286,148 @@ const ECHOES: [Case; 20] = [
 ];
 
 #[test]
-fn replies_wherever_the_octets_are_cut(rt: HostRuntime) -> Result<(), Fail> {
+fn target_answers_wherever_the_octets_are_cut(rt: HostRuntime) -> Result<(), Fail> {
     for case in TARGETS {
-        for at in 0..case.octets.len() {
-            expect(&rt, rt.alloc(), Target, &case, at)?;
-        }
-    }
-    for case in ECHOES {
-        for at in 0..case.octets.len() {
-            expect(&rt, rt.alloc(), Echo, &case, at)?;
-        }
-        expect(&rt, rt.alloc(), Echo, &case, 0)?;
+        expect_target(&rt, rt.alloc(), &case)?;
     }
     Ok(())
+}
+
+#[test]
+fn echo_answers_wherever_the_octets_are_cut(rt: HostRuntime) -> Result<(), Fail> {
+    for case in ECHOES {
+        expect_echo(&rt, rt.alloc(), &case)?;
+    }
+    Ok(())
+}
+
+fn many(alloc: Global, part: &[u8], count: usize) -> Result<Bytes, NoMemory> {
+    let mut octets = Bytes::new(alloc);
+    for _ in 0..count {
+        octets.extend(part)?;
+    }
+    Ok(octets)
+}
+
+#[test]
+fn pairs_before_a_request_count_for_nothing(rt: HostRuntime) -> Result<(), Fail> {
+    let alloc = rt.alloc();
+    let mut octets = many(alloc, b"\r\n", 40_000)?;
+    octets.extend(b"GET / HTTP/1.1\r\nHost: a\r\n\r\n")?;
+    let output = replies(alloc, Echo, octets.as_slice(), 30_001)?;
+    assert!(&rt; output.as_slice() == OK_EMPTY);
+    Ok(())
+}
+
+/// A head of 28 octets, a value of so many, and two line ends of two.
+fn head_with_value(alloc: Global, count: usize) -> Result<Bytes, NoMemory> {
+    let mut octets = Bytes::from_slice(alloc, b"GET / HTTP/1.1\r\nHost: a\r\nX: ")?;
+    octets.extend(many(alloc, b"x", count)?.as_slice())?;
+    octets.extend(b"\r\n\r\n")?;
+    Ok(octets)
+}
+
+#[test]
+fn heads_have_a_limit(rt: HostRuntime) -> Result<(), Fail> {
+    let alloc = rt.alloc();
+    let mut connection = connection_of(alloc, Echo);
+    let longest = head_with_value(alloc, 65_504)?;
+    assert!(&rt; longest.len() == 65_536);
+    assert!(&rt; feed(&mut connection, longest.as_slice())? == Fed::More);
+    assert!(&rt; take_output(&mut connection).as_slice() == OK_EMPTY);
+    let longer = head_with_value(alloc, 65_505)?;
+    let (most, last) = cut(longer.as_slice(), 65_535);
+    assert!(&rt; feed(&mut connection, most)? == Fed::More);
+    assert!(&rt; feed(&mut connection, last)? == Fed::Closed);
+    assert!(&rt; take_output(&mut connection).as_slice() == FAULT);
+    Ok(())
+}
+
+#[test]
+fn octets_behind_a_last_request_are_dropped(rt: HostRuntime) -> Result<(), Fail> {
+    let mut connection = connection_of(rt.alloc(), Target);
+    assert!(&rt; feed(&mut connection, b"GET /a HTTP/1.1\r\nHost: a\r\n")? == Fed::More);
+    assert!(&rt; feed(&mut connection, b"Connection: close\r\n\r\nGET /b")? == Fed::Closed);
+    assert!(&rt; feed(&mut connection, b" HTTP/1.1\r\nHost: a\r\n\r\n")? == Fed::Closed);
+    end(&mut connection)?;
+    drain(&mut connection);
+    let output = take_output(&mut connection);
+    assert!(&rt;
+        output.as_slice()
+            == b"HTTP/1.1 200 OK\r\nContent-Length: 6\r\nConnection: close\r\n\r\nGET /a".as_slice()
+    );
+    assert!(&rt; take_output(&mut connection).is_empty());
+    Ok(())
+}
+
+#[test]
+fn octets_behind_the_end_are_dropped(rt: HostRuntime) -> Result<(), Fail> {
+    let mut connection = connection_of(rt.alloc(), Echo);
+    end(&mut connection)?;
+    assert!(&rt; feed(&mut connection, b"GET / HTTP/1.1\r\nHost: a\r\n\r\n")? == Fed::Closed);
+    drain(&mut connection);
+    end(&mut connection)?;
+    assert!(&rt; take_output(&mut connection).is_empty());
+    Ok(())
+}
+
+#[test]
+fn octets_behind_a_drain_are_dropped(rt: HostRuntime) -> Result<(), Fail> {
+    let mut connection = connection_of(rt.alloc(), Echo);
+    assert!(&rt; feed(&mut connection, b"GET / HTTP/1.1\r\nHost: a\r\n\r\nGET /")? == Fed::More);
+    drain(&mut connection);
+    assert!(&rt; feed(&mut connection, b" HTTP/1.1\r\nHost: a\r\n\r\n")? == Fed::Closed);
+    end(&mut connection)?;
+    assert!(&rt; take_output(&mut connection).as_slice() == OK_EMPTY);
+    let Echo = connection.service();
+    Ok(())
+}
+
+/// The answer in chunks of a body of so many octets.
+fn chunked_answer(alloc: Global, count: usize) -> Result<Bytes, NoMemory> {
+    let body = many(alloc, b"x", count)?;
+    let mut connection = connection_of(alloc, Fixed { body });
+    feed(&mut connection, b"GET / HTTP/1.1\r\nHost: a\r\n\r\n")?;
+    Ok(take_output(&mut connection))
+}
+
+/// The same by hand: a chunk of 4,096 octets, and what follows it.
+fn one_chunk_and(alloc: Global, behind: &[u8]) -> Result<Bytes, NoMemory> {
+    let head = b"HTTP/1.1 200 OK\r\nTransfer-Encoding: chunked\r\n\r\n1000\r\n";
+    let mut text = Bytes::from_slice(alloc, head)?;
+    text.extend(many(alloc, b"x", 4096)?.as_slice())?;
+    text.extend(b"\r\n")?;
+    text.extend(behind)?;
+    Ok(text)
+}
+
+#[test]
+fn chunks_of_answers_have_4096_octets(rt: HostRuntime) -> Result<(), Fail> {
+    let alloc = rt.alloc();
+    let one = one_chunk_and(alloc, b"0\r\n\r\n")?;
+    assert!(&rt; chunked_answer(alloc, 4096)?.as_slice() == one.as_slice());
+    let two = one_chunk_and(alloc, b"1\r\nx\r\n0\r\n\r\n")?;
+    assert!(&rt; chunked_answer(alloc, 4097)?.as_slice() == two.as_slice());
+    Ok(())
+}
+
+/// Answers each request with this body in chunks, and tells nothing.
+#[derive(Debug, Drop)]
+struct Fixed {
+    body: Bytes,
+}
+
+impl Service for Fixed {
+    ghost use Rattle.std.specs.Prelude.{None};
+
+    ghost told = { None };
+
+    fn answer(&mut self, alloc: Global, _request: &Request) -> Result<Answer, NoMemory> {
+        let body = Bytes::from_slice(alloc, self.body.as_slice())?;
+        Ok(Answer {
+            status: 200,
+            body,
+            chunked: true,
+        })
+    }
 }

@@ -1,11 +1,11 @@
 -- Chunks one after another, and what cannot be a body.
-use Rattle.std.proofs.Common.{◌≡◌, ℕ, ◌+◌, ◌-◌, ◌<◌, ◌≤◌, ◌⊎◌, List, [], ◌∷◌, ◌++◌, length, take, drop, refl, ap, sym, subst, ◌∙◌, arith, inl, inr}
+use Rattle.std.proofs.Common.{◌≡◌, ℕ, ◌+◌, ◌-◌, ◌<◌, ◌≤◌, List, [], ◌∷◌, ◌++◌, length, take, drop, refl, ap, sym, subst, ◌∙◌, arith, inl, inr}
 use Rattle.std.specs.Prelude.{IsTrue}
 use Rattle.std.proofs.lemmas.List.{append-nil, append_assoc, length-append, take_at, drop_at}
 use Rattle.http_heads.specs.declared.field.Field.{Field}
 use Rattle.http_heads.specs.Section.{StartsWithSection, HasNoSection, NeverHasSection}
 use Rattle.http_heads.proofs.SectionLemmas.{section_append, section_only}
-use Rattle.http_frames.specs.Chunks.{is_size_line, size_of, line_text, Chunk, chunk_text, IsChunk, IsLast, IsTrailer, texts, contents, AreChunks, Chunked, Body, HasNoBody, NeverHasBody, NoCr, AwaitsLine, AwaitsData, AwaitsTrailer, Waits}
+use Rattle.http_frames.specs.Chunks.{is_size_line, size_of, line_text, Chunk, chunk_text, IsChunk, IsLast, IsTrailer, texts, contents, AreChunks, Chunked, Body, HasNoBody, NeverHasBody, NoCr, AwaitsData, Waits}
 use Rattle.http_frames.proofs.LineLemmas.{first_cr_unique, cr_behind, line_no_cr, line_short}
 
 pub texts_push : (cs : List Chunk) (c : Chunk) (rest : List ℕ) → texts cs (chunk_text c rest) ≡ texts (cs ++ c ∷ []) rest

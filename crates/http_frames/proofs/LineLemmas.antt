@@ -3,7 +3,7 @@ use Rattle.std.proofs.Common.{◌≡◌, ◌≢◌, ℕ, zero, suc, ◌+◌, ◌
 use Rattle.std.specs.Prelude.{IsTrue}
 use Rattle.std.specs.List.{list_all}
 use Rattle.std.specs.Char.{is_ascii_hexdigit}
-use Rattle.std.proofs.lemmas.List.{append-nil, append_assoc, take-append-drop, drop_more, length-append}
+use Rattle.std.proofs.lemmas.List.{take-append-drop, drop_more, length-append}
 use Rattle.std.proofs.lemmas.Bool.{eqb-true, leb-true}
 use Rattle.httparse.specs.Grammar.{is_value_byte, is_ows, skip_ows}
 use Rattle.http_frames.specs.Chunks.{digit_count, is_extension, is_size_line, line_text, NoCr}

@@ -12,8 +12,8 @@ use Rattle.http_heads.proofs.SectionLemmas.{section_append}
 use Rattle.http_heads.proofs.EndingLemmas.{section_ends, section_inside}
 use Rattle.http_frames.specs.declared.reader.Stage.{Stage}
 use Rattle.http_frames.specs.declared.reader.Stage.TheVariants as stages
-use Rattle.http_frames.specs.Chunks.{is_size_line, size_of, line_text, Chunk, IsChunk, IsLast, IsTrailer, texts, contents, AreChunks, Body, NeverHasBody, NoCr, AwaitsLine, AwaitsData, AwaitsTrailer, Waits}
-use Rattle.http_frames.specs.Reader.{HasData, HasLast, Keeps, IsReadAs, IsKept, IsSound}
+use Rattle.http_frames.specs.Chunks.{is_size_line, size_of, line_text, Chunk, IsChunk, IsTrailer, texts, contents, AreChunks, Body, NeverHasBody, NoCr, Waits}
+use Rattle.http_frames.specs.Reader.{HasData, HasLast, Keeps, IsReadAs, IsSound}
 use Rattle.http_frames.proofs.LineLemmas.{no_line_in, no_line_before_lf}
 use Rattle.http_frames.proofs.ChunkLemmas.{texts_append, texts_push, contents_push, chunks_push, NeverHasUnit, never_body, never_unit_long, never_unit_no_lf, never_unit_unsized, never_unit_large, never_unit_end, never_unit_trailer, body_text}
 

@@ -1,6 +1,5 @@
 -- What a reader of a chunked body has of the octets so far.
-use Rattle.std.specs.Prelude.{◌≡◌, ℕ, ◌+◌, ◌<◌, ◌≤◌, List, [], ◌∷◌, ◌++◌, length, take, IsTrue, ⊤}
-use Rattle.http_heads.specs.declared.field.Field.{Field}
+use Rattle.std.specs.Prelude.{◌≡◌, ℕ, ◌+◌, ◌<◌, ◌≤◌, List, [], ◌∷◌, ◌++◌, length, IsTrue, ⊤}
 use Rattle.http_heads.specs.Section.{HasNoSection, NeverHasSection}
 use Rattle.http_frames.specs.declared.reader.Stage.{Stage}
 use Rattle.http_frames.specs.declared.reader.Stage.TheVariants as stages

@@ -1,5 +1,5 @@
 -- A chunk as it is written.
-use Rattle.std.specs.Prelude.{ℕ, false, List, [], ◌∷◌, ◌++◌, length}
+use Rattle.std.specs.Prelude.{ℕ, false, List, [], length}
 use Rattle.std.specs.Fmt.{digits}
 use Rattle.http_frames.specs.Chunks.{line_text}
 

@@ -149,15 +149,8 @@ fn are_bodies(alloc: Global, table: &[Case]) -> Result<bool, NoMemory> {
 
 #[test]
 fn messages_are_read_as_worked_out(rt: HostRuntime) -> Result<(), Fail> {
-    assert!(rt; are_messages(rt.alloc(), cases::lines())?);
-    assert!(rt; are_messages(rt.alloc(), cases::hosts())?);
-    assert!(rt; are_messages(rt.alloc(), cases::codings())?);
-    assert!(rt; are_messages(rt.alloc(), cases::lists())?);
-    assert!(rt; are_messages(rt.alloc(), cases::numbers())?);
-    assert!(rt; are_bodies(rt.alloc(), cases::chunks())?);
-    assert!(rt; are_bodies(rt.alloc(), cases::bad_lines())?);
-    assert!(rt; are_bodies(rt.alloc(), cases::sizes())?);
-    assert!(rt; are_bodies(rt.alloc(), cases::trailers())?);
+    assert!(rt; are_messages(rt.alloc(), cases::messages())?);
+    assert!(rt; are_bodies(rt.alloc(), cases::bodies())?);
     Ok(())
 }
 

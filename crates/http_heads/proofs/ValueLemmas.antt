@@ -1,9 +1,9 @@
 -- Cutting a value at its first comma.
 use Rattle.std.proofs.Common.{◌≡◌, ◌≢◌, ℕ, zero, suc, ◌+◌, ◌<◌, cond, Bool, true, false, ◌||◌, ◌&&◌, List, [], ◌∷◌, ◌++◌, map, length, get_or, take, drop, refl, sym, ap, ◌∙◌, arith}
-use Rattle.std.specs.Prelude.{count_by, nat_lt}
+use Rattle.std.specs.Prelude.{count_by, nat_lt, ◌==◌}
 use Rattle.std.specs.Borrow.{Bor}
 use Rattle.std.specs.List.{list_any}
-use Rattle.std.proofs.lemmas.List.{map_push}
+use Rattle.std.proofs.lemmas.List.{map_push, map-append}
 use Rattle.std.proofs.lemmas.List.Sums.{sum_by_push, sum_by-cons}
 use Rattle.std.proofs.lemmas.Bool.{eq-eqb, ne_eqb}
 use Rattle.std.proofs.lemmas.Bool.Decides.{nat_tests}
@@ -123,3 +123,36 @@ length_is_fold (e ∷ es) = by_test (is_length e) (add_after (digits_value 10 e)
 
 pub fold_seen : (s : Sizes) (es : List (Bor (List ℕ))) (e : Bor (List ℕ)) → add_length (fold add_length s (seen es)) e.now ≡ fold add_length s (seen (es ++ e ∷ []))
 fold_seen s es e = sym (ap (fold add_length s) (map_push (λ (x : Bor (List ℕ)). x.now) es e) ∙ fold_push add_length s (seen es) e.now)
+
+-- ---- values joined by a comma
+
+-- a value has a first piece
+cut_some : (xs : List ℕ) → (piece : List ℕ) × (pieces : List (List ℕ)) × (cut_at_commas xs ≡ piece ∷ pieces)
+cut_some [] = ([], [], refl)
+cut_some (b ∷ bs) = by_test (b == 44) (cut_some bs)
+  where
+    by_test : (t : Bool) → ((piece : List ℕ) × (pieces : List (List ℕ)) × (cut_at_commas bs ≡ piece ∷ pieces)) → (piece : List ℕ) × (pieces : List (List ℕ)) × (cond t ([] ∷ cut_at_commas bs) (cons_first b (cut_at_commas bs)) ≡ piece ∷ pieces)
+    by_test true r = ([], cut_at_commas bs, refl)
+    by_test false r = (b ∷ r.0, r.1, ap (cons_first b) r.2)
+
+cut-append : (a b : List ℕ) → cut_at_commas (a ++ 44 ∷ b) ≡ cut_at_commas a ++ cut_at_commas b
+cut-append [] b = refl
+cut-append (x ∷ a) b = by_test (x == 44) (cut-append a b) (cut_some a)
+  where
+    by_test : (t : Bool) → cut_at_commas (a ++ 44 ∷ b) ≡ cut_at_commas a ++ cut_at_commas b → ((piece : List ℕ) × (pieces : List (List ℕ)) × (cut_at_commas a ≡ piece ∷ pieces))
+        → cond t ([] ∷ cut_at_commas (a ++ 44 ∷ b)) (cons_first x (cut_at_commas (a ++ 44 ∷ b))) ≡ cond t ([] ∷ cut_at_commas a) (cons_first x (cut_at_commas a)) ++ cut_at_commas b
+    by_test true later some = ap (λ ps. [] ∷ ps) later
+    by_test false later some =
+        ap (cons_first x) later ∙ ap (λ ps. cons_first x (ps ++ cut_at_commas b)) some.2 ∙ sym (ap (λ ps. cons_first x ps ++ cut_at_commas b) some.2)
+
+kept-append : (xs ys : List (List ℕ)) → kept (xs ++ ys) ≡ kept xs ++ kept ys
+kept-append [] ys = refl
+kept-append (x ∷ xs) ys = by_test (is_blank x) (kept-append xs ys)
+  where
+    by_test : (t : Bool) → kept (xs ++ ys) ≡ kept xs ++ kept ys → cond t (kept (xs ++ ys)) (x ∷ kept (xs ++ ys)) ≡ cond t (kept xs) (x ∷ kept xs) ++ kept ys
+    by_test true later = later
+    by_test false later = ap (λ es. x ∷ es) later
+
+-- joined by a comma, two values have the elements of both
+pub elements-join : (a b : List ℕ) → elements (a ++ 44 ∷ b) ≡ elements a ++ elements b
+elements-join a b = ap (λ ps. kept (map trim_ows ps)) (cut-append a b) ∙ ap kept (map-append trim_ows (cut_at_commas a) (cut_at_commas b)) ∙ kept-append (map trim_ows (cut_at_commas a)) (map trim_ows (cut_at_commas b))

@@ -14,6 +14,7 @@ pub mod text;
 pub use ending::{brings_head, brings_section};
 pub use field::{Field, Fields, Head};
 pub use front::{MAX_OCTETS, front_of};
+pub use list::values_join;
 pub use read::{head_stays, one_head, read_head};
 pub use section::{one_section, read_section, section_stays};
 

@@ -1,6 +1,7 @@
 //! Lists of values, cut at commas (RFC 9110, section 5.6.1).
-ghost use Rattle.std.specs.Prelude.{◌≡◌, ◌≤◌, [], ◌∷◌, length, MatchOption, if◌then◌else◌};
+ghost use Rattle.std.specs.Prelude.{◌≡◌, ◌≤◌, List, ℕ, ◌++◌, [], ◌∷◌, length, MatchOption, if◌then◌else◌};
 ghost use Rattle.std.specs.Iterator.{YieldsFirstRef, item_count};
+ghost use Rattle.httparse.specs.Ascii.{comma};
 ghost use Rattle.http_heads.specs.Values.{is_same, is_named, is_blank, elements, elements_of_rest, left_of, list_of};
 ghost use Rattle.http_heads.specs.Left.{elements_left};
 
@@ -90,3 +91,9 @@ impl<'a> Iterator for Elements<'a> {
         }
     }
 }
+
+/// Values that are joined by a comma have the elements of both, so the list of several fields is
+/// that of their values joined by commas (RFC 9110, section 5.3).
+pub fn values_join()
+    ensures { (a b : List ℕ) → elements (a ++ comma ∷ b) ≡ elements a ++ elements b }
+{}

@@ -5,8 +5,9 @@ use super::Read::{self, Bad, Fault, HeadBad, HeadMore, More, Whole};
 /// The octets, what they come to, and the body.
 pub type Case = (&'static [u8], Read, &'static [u8]);
 
-/// Start lines and field lines, read as messages.
-static LINES: [Case; 12] = [
+/// Messages: a head, and the body that its framing tells.
+static MESSAGES: [Case; 56] = [
+    // ---- Start lines and field lines, read as messages.
     // a head without its empty line (2.1)
     (b"GET / HTTP/1.1\r\nHost: a\r\n", HeadMore, b""),
     // a method that may go on (3.1)
@@ -31,10 +32,8 @@ static LINES: [Case; 12] = [
     (b"GET / HTTP/1.1\r\nHost: a\0\r\n\r\n", HeadBad, b""),
     // a CR alone in a value (2.2)
     (b"GET / HTTP/1.1\r\nHost: a\rb\r\n\r\n", HeadBad, b""),
-];
 
-/// Host and CONNECT, read as messages.
-static HOSTS: [Case; 12] = [
+    // ---- Host and CONNECT, read as messages.
     // no Host in 1.1 (3.2)
     (b"GET / HTTP/1.1\r\n\r\n", Fault(400), b""),
     // no Host in 1.0 (3.2)
@@ -71,10 +70,8 @@ static HOSTS: [Case; 12] = [
     (b"connect a:1 HTTP/1.1\r\nHost: a\r\n\r\n", Whole(33), b""),
     // no field of a framing (6.3, rule 7)
     (b"POST / HTTP/1.1\r\nHost: a\r\n\r\nabc", Whole(28), b""),
-];
 
-/// Transfer-Encoding, read as messages.
-static CODINGS: [Case; 15] = [
+    // ---- Transfer-Encoding, read as messages.
     // Transfer-Encoding in 1.0 (6.1)
     (
         b"POST / HTTP/1.0\r\nTransfer-Encoding: chunked\r\n\r\n0\r\n\r\n",
@@ -165,10 +162,8 @@ static CODINGS: [Case; 15] = [
         Fault(400),
         b"",
     ),
-];
 
-/// Lists of Content-Length, read as messages.
-static LISTS: [Case; 9] = [
+    // ---- Lists of Content-Length, read as messages.
     // equal numbers in one list (8.6 of RFC 9110)
     (
         b"POST / HTTP/1.1\r\nHost: a\r\nContent-Length: 5, 5\r\n\r\nabcde",
@@ -223,10 +218,8 @@ static LISTS: [Case; 9] = [
         Fault(400),
         b"",
     ),
-];
 
-/// Numbers of Content-Length, read as messages.
-static NUMBERS: [Case; 8] = [
+    // ---- Numbers of Content-Length, read as messages.
     // thirty noughts and a 5
     (
         b"POST / HTTP/1.1\r\nHost: a\r\nContent-Length: 0000000000000000000000000000005\r\n\r\nabcde",
@@ -277,8 +270,9 @@ static NUMBERS: [Case; 8] = [
     ),
 ];
 
-/// Lines of chunks that are in order, read as bodies.
-static CHUNKS: [Case; 9] = [
+/// Chunked bodies by themselves.
+static BODIES: [Case; 38] = [
+    // ---- Lines of chunks that are in order, read as bodies.
     // a chunk with an extension (7.1.1)
     (b"3;x=1\r\nabc\r\n0\r\n\r\nGET", Whole(17), b"abc"),
     // the last chunk alone (7.1)
@@ -297,10 +291,8 @@ static CHUNKS: [Case; 9] = [
     (b"3; ~\t\x80\xff\r\nabc\r\n0\r\n\r\n", Whole(19), b"abc"),
     // an extension of the last chunk
     (b"0;last\r\n\r\n", Whole(10), b""),
-];
 
-/// Lines of chunks that are not, read as bodies.
-static BAD_LINES: [Case; 11] = [
+    // ---- Lines of chunks that are not, read as bodies.
     // a DEL in an extension
     (b"3;\x7f\r\nabc\r\n", Bad, b""),
     // a NUL in an extension
@@ -323,10 +315,8 @@ static BAD_LINES: [Case; 11] = [
     (b"3\nabc\r\n", Bad, b""),
     // CR alone in a line
     (b"3\rabc", Bad, b""),
-];
 
-/// Sizes and data, read as bodies.
-static SIZES: [Case; 10] = [
+    // ---- Sizes and data, read as bodies.
     // sixteen digits
     (b"0000000000000003\r\nabc\r\n0\r\n\r\n", Whole(28), b"abc"),
     // seventeen digits
@@ -347,10 +337,8 @@ static SIZES: [Case; 10] = [
     (b"3\r\nabc\n0\r\n\r\n", Bad, b""),
     // CR alone behind the data
     (b"3\r\nabc\r0\r\n\r\n", Bad, b""),
-];
 
-/// Ends of data, and trailers, read as bodies.
-static TRAILERS: [Case; 8] = [
+    // ---- Ends of data, and trailers, read as bodies.
     // more data than announced
     (b"3\r\nabcd\r\n0\r\n\r\n", Bad, b""),
     // a trailer (7.1.2)
@@ -369,38 +357,10 @@ static TRAILERS: [Case; 8] = [
     (b"0\r\n\rGET\r\n\r\n", Bad, b""),
 ];
 
-pub fn lines() -> &'static [Case] {
-    &LINES
+pub fn messages() -> &'static [Case] {
+    &MESSAGES
 }
 
-pub fn hosts() -> &'static [Case] {
-    &HOSTS
-}
-
-pub fn codings() -> &'static [Case] {
-    &CODINGS
-}
-
-pub fn lists() -> &'static [Case] {
-    &LISTS
-}
-
-pub fn numbers() -> &'static [Case] {
-    &NUMBERS
-}
-
-pub fn chunks() -> &'static [Case] {
-    &CHUNKS
-}
-
-pub fn bad_lines() -> &'static [Case] {
-    &BAD_LINES
-}
-
-pub fn sizes() -> &'static [Case] {
-    &SIZES
-}
-
-pub fn trailers() -> &'static [Case] {
-    &TRAILERS
+pub fn bodies() -> &'static [Case] {
+    &BODIES
 }

@@ -1,6 +1,6 @@
 use Rattle.std.proofs.Common.{[], ◌++◌, refl, sym, ◌∙◌}
 use Rattle.http_core.specs.declared.read.Step.TheVariants.{More, Whole, Fault}
-use Rattle.http_core.proofs.ServeLemmas.{Serving, serving_as, serve_first, serve_more, serve_fault, serve_closed, serve_on, serves_err}
+use Rattle.http_core.proofs.ServeLemmas.{serving_as, serve_first, serve_more, serve_fault, serve_closed, serve_on, serves_err}
 use Rattle.http_core.proofs.connection.serve.Goals as goal
 
 pub loop-step-init : goal.loop-step-init

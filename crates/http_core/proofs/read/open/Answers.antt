@@ -1,6 +1,4 @@
-use Rattle.std.proofs.Common.{◌≡◌, ℕ, Some, None, List, ◌∙◌, ap, sym}
-use Rattle.http_heads.specs.Heads.{HasNoHead}
-use Rattle.http_core.specs.Reading.{Begins}
+use Rattle.std.proofs.Common.{Some, None}
 use Rattle.http_core.proofs.ReadLemmas.{none_at_once, steps_begun, leaves_end, after_pairs, takes_some, begins_as, opening}
 use Rattle.http_core.proofs.read.open.Goals as goal
 

@@ -1,4 +1,4 @@
-use Rattle.std.proofs.Common.{◌≡◌, ℕ, List, ◌++◌, [], take, refl, arith, inr, subst, sym}
+use Rattle.std.proofs.Common.{ℕ, List, ◌++◌, [], take, refl, arith, inr, subst, sym}
 use Rattle.http_frames.specs.declared.Frame.TheVariants.{More, Whole, Bad}
 use Rattle.http_frames.specs.Chunks.{Body}
 use Rattle.http_core.proofs.RequestLemmas.{chunked_whole}

@@ -1,4 +1,4 @@
-use Rattle.std.proofs.Common.{◌≡◌, ℕ, List, ◌++◌, length, take, refl, arith, ap, sym, ◌∙◌}
+use Rattle.std.proofs.Common.{length, refl, arith, ap, ◌∙◌}
 use Rattle.http_frames.specs.declared.Frame.TheVariants.{Whole}
 use Rattle.http_core.proofs.RequestLemmas.{sized_whole}
 use Rattle.http_core.proofs.ReadLemmas.{fills_as}

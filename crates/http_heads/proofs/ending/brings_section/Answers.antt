@@ -1,4 +1,4 @@
-use Rattle.std.proofs.Common.{sym, ◌∙◌, arith, length, ◌<◌, false, ◌≡◌}
+use Rattle.std.proofs.Common.{sym, ◌∙◌, arith, length}
 use Rattle.http_heads.specs.Ending.{ends_empty_line}
 use Rattle.http_heads.proofs.EndingLemmas.{one_more, ends_before, section_ends, section_inside}
 use Rattle.http_heads.proofs.ending.brings_section.Goals as goal

@@ -1,4 +1,4 @@
-use Rattle.std.proofs.Common.{refl, subst, sym, List, ℕ, ◌++◌}
+use Rattle.std.proofs.Common.{refl, subst, sym, ◌++◌}
 use Rattle.http_frames.specs.Progress.{IsFed}
 use Rattle.http_frames.specs.Steps.{IsReadBy, Steps, TookAll}
 use Rattle.http_frames.proofs.ChunkLemmas.{no_body_waits}

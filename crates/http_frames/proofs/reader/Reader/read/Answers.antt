@@ -1,7 +1,7 @@
-use Rattle.std.proofs.Common.{◌+◌, ◌-◌, ◌<◌, ◌++◌, [], ℕ, List, arith, subst, sym, ap, length, take, drop}
+use Rattle.std.proofs.Common.{◌-◌, ◌++◌, [], ℕ, List, arith, subst, length, take, drop}
 use Rattle.std.proofs.lemmas.List.{take_rest, length-take, length-drop}
 use Rattle.http_frames.specs.Chunks.{Body, NeverHasBody}
-use Rattle.http_frames.specs.Steps.{IsReadBy, Steps, IsProgress}
+use Rattle.http_frames.specs.Steps.{IsReadBy, Steps}
 use Rattle.http_frames.proofs.StepLemmas.{fronts_join, front_and_rest}
 use Rattle.http_frames.proofs.reader.Reader.read.Goals as goal
 

@@ -1,4 +1,4 @@
-use Rattle.std.proofs.Common.{arith, inr, ap, length, ◌-◌, take}
+use Rattle.std.proofs.Common.{arith, inr, ap, length, ◌-◌}
 use Rattle.std.proofs.lemmas.List.{length-append, length-take}
 use Rattle.http_frames.proofs.StepLemmas.{trailer_grows, trailer_never, crowded_sound, crowded_stays, crowded_short}
 use Rattle.http_frames.proofs.reader.Reader.take_crowded.Goals as goal

@@ -1,4 +1,4 @@
-use Rattle.std.proofs.Common.{arith, ◌-◌, ◌≤◌, ◌+◌, length, take}
+use Rattle.std.proofs.Common.{arith, ◌-◌, length, take}
 use Rattle.std.proofs.lemmas.List.{length-take}
 use Rattle.http_frames.proofs.StepLemmas.{data_grows, data_ends, data_sound}
 use Rattle.http_frames.proofs.reader.Reader.take_data.Goals as goal

@@ -1,5 +1,5 @@
 use Rattle.std.proofs.lemmas.List.{length-take}
-use Rattle.std.proofs.Common.{arith, refl, [], ◌∷◌, ◌+◌, length, take, drop, inl, inr, sym, append-nil}
+use Rattle.std.proofs.Common.{arith, refl, [], ◌∷◌, ◌+◌, take, drop, inl, inr, sym, append-nil}
 use Rattle.http_frames.proofs.StepLemmas.{line_sound, line_grows, line_long, line_ends}
 use Rattle.http_frames.specs.declared.reader.Stage.TheVariants.{LineEnd}
 use Rattle.http_frames.proofs.reader.Reader.take_line.Goals as goal

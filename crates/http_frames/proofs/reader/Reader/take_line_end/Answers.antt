@@ -1,5 +1,4 @@
-use Rattle.std.proofs.Common.{arith, sym, ap, subst, ◌∙◌, ◌≡◌, true, false, ◌+◌}
-use Rattle.std.specs.Prelude.{IsTrue}
+use Rattle.std.proofs.Common.{arith, sym, ap, ◌∙◌, ◌≡◌, true, false}
 use Rattle.http_frames.specs.Chunks.{is_size_line, size_of}
 use Rattle.http_frames.proofs.StepLemmas.{end_missing, line_unsized, line_large, line_opens, line_closes, opens_sound, closes_sound}
 use Rattle.http_frames.proofs.reader.Reader.take_line_end.Goals as goal

@@ -1,4 +1,4 @@
-use Rattle.std.proofs.Common.{arith, inl, inr, refl, subst, sym, ap, ◌∙◌, length, ◌-◌, ◌<◌, take, false, List, ℕ, [], ◌++◌, Ok}
+use Rattle.std.proofs.Common.{arith, inl, inr, refl, subst, sym, ap, ◌∙◌, length, ◌-◌, ◌<◌, take, List, ℕ, [], ◌++◌, Ok}
 use Rattle.std.proofs.lemmas.List.{length-append, length-take}
 use Rattle.http_heads.specs.Section.{ReadsAs, HasNoSection, NeverHasSection, StartsWithSection}
 use Rattle.http_frames.specs.Chunks.{Body}
