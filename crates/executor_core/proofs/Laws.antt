@@ -196,6 +196,17 @@ never_finished limit es l n q at w = let h = works_between (fresh limit) es l n 
     let a : ℕ = times (is_start n) es in let b : ℕ = times (is_finish n) es in let b' : ℕ = times (is_finish n) (of_caller 0 es) in let x : ℕ = works (slice_get (board_of limit es).requests n) in let u : ℕ = unstarted (slice_get (board_of limit es).requests n) in
     let h' : 0 + a ≡ x + b = h in let s' : a + u ≤ 1 = s in let f' : b' ≤ b = f in let v : u ≡ 1 = ap unstarted at ∙ ap (λ (b : Bool). cond b 1 0) w in let g : b' ≡ 0 = omega arith in g
 
+-- a request that wasn't submitted, or that waits for its start, was not started
+pub never_started : (limit : ℕ) (es : List Entry) → Legal limit es → (n : ℕ) → unstarted (slice_get (board_of limit es).requests n) ≡ 1 → starts_in es n ≡ 0
+never_started limit es l n w = let s = starts_once (fresh limit) es l n in
+    let a : ℕ = times (is_start n) es in let u : ℕ = unstarted (slice_get (board_of limit es).requests n) in let s' : a + u ≤ 1 = s in let w' : u ≡ 1 = w in let g : a ≡ 0 = omega arith in g
+
+-- a request that runs was started once
+pub started_once : (limit : ℕ) (es : List Entry) → Legal limit es → (n : ℕ) (q : Request) → slice_get (board_of limit es).requests n ≡ Some q → running_state q.state ≡ true → starts_in es n ≡ 1
+started_once limit es l n q at w = let h = works_between (fresh limit) es l n in let o = one_start limit es l n in
+    let a : ℕ = times (is_start n) es in let b : ℕ = times (is_finish n) es in let x : ℕ = works (slice_get (board_of limit es).requests n) in
+    let h' : 0 + a ≡ x + b = h in let o' : a ≤ 1 = o in let w' : x ≡ 1 = ap works at ∙ ap (λ (b : Bool). cond b 1 0) w in let g : a ≡ 1 = omega arith in g
+
 mine_last : (c : ℕ) (es : List Entry) (e : Entry) → e.caller ≡ c → of_caller c (es ++ e ∷ []) ≡ of_caller c es ++ e ∷ []
 mine_last c es e is = filter-append (λ (x : Entry). x.caller == c) es (e ∷ []) ∙ ap (λ (l : List Entry). of_caller c es ++ l) (mine_here c e [] is)
 
@@ -220,7 +231,7 @@ new_unfinished limit es l n q at w step words = let e : Entry = entry 0 Next (St
     )
 
 -- what a caller's own entries say, with one entry more
-one_more : (p : Entry → Bool) (mine : List Entry) (e : Entry) → times p (mine ++ e ∷ []) ≡ times p mine + cond (p e) 1 0
+pub one_more : (p : Entry → Bool) (mine : List Entry) (e : Entry) → times p (mine ++ e ∷ []) ≡ times p mine + cond (p e) 1 0
 one_more p mine e = times_append p mine (e ∷ []) ∙ (let a : ℕ = times p mine in let x : ℕ = cond (p e) 1 0 in let g : a + (x + 0) ≡ a + x = omega arith in g)
 
 pub outstanding_stays : (n : ℕ) (mine : List Entry) (e : Entry) → is_spend n e ≡ false → Outstanding mine n → Outstanding (mine ++ e ∷ []) n
@@ -258,3 +269,7 @@ finished_is_out n mine e finish u = let t = one_more (is_finish n) mine e in let
 -- a request that is outstanding stays so, where the caller's entry doesn't spend it
 pub still_outstanding : (c n : ℕ) (es : List Entry) (e : Entry) → e.caller ≡ c → is_spend n e ≡ false → Outstanding (of_caller c es) n → Outstanding (of_caller c (es ++ e ∷ [])) n
 still_outstanding c n es e is no_spend u = subst (λ (m : List Entry). Outstanding m n) (sym (mine_last c es e is)) (outstanding_stays n (of_caller c es) e no_spend u)
+
+-- an entry that doesn't start the request
+pub starts_same : (es : List Entry) (e : Entry) (n : ℕ) → is_start n e ≡ false → starts_in (es ++ e ∷ []) n ≡ starts_in es n
+starts_same es e n none = one_more (is_start n) es e ∙ (let a : ℕ = times (is_start n) es in let x : ℕ = cond (is_start n e) 1 0 in let z : x ≡ 0 = ap (λ (b : Bool). cond b 1 0) none in let g : a + x ≡ a = omega arith in g)

@@ -4,3 +4,4 @@ pub mod Steps
 pub mod Weights
 pub mod Laws
 pub mod Answered
+pub mod Opens

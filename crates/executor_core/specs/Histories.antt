@@ -118,6 +118,14 @@ AllFinished mine = (r : ℕ) → Unfinished mine r → ⊥
 abbrev pub AllSpent : List Entry → Type 0
 AllSpent mine = (r : ℕ) → Outstanding mine r → ⊥
 
+-- all that the caller submitted but this request is withdrawn or collected
+abbrev pub AllSpentBut : ℕ → List Entry → Type 0
+AllSpentBut n mine = (r : ℕ) → Outstanding mine r → r ≡ n
+
+-- all that the target started but this request is finished
+abbrev pub AllFinishedBut : ℕ → List Entry → Type 0
+AllFinishedBut n mine = (r : ℕ) → Unfinished mine r → r ≡ n
+
 -- each request has ended, has started at most once and ended exactly once
 abbrev pub Settled : ℕ → List Entry → Type 0
 Settled limit es = (r : ℕ) (q : Request) → slice_get (board_of limit es).requests r ≡ Some q → (ended_state q.state ≡ true) × (starts_in es r ≤ 1) × (ends_in limit es r ≡ 1)

@@ -8,6 +8,8 @@ use kj_base::Sent;
 pub struct Item {
     pub step: u32,
     pub word: u64,
+    /// Tells one payload from another.
+    pub mark: u64,
 }
 
 impl Sent for Item {

@@ -2,6 +2,8 @@
 #![tactic(auto)]
 
 mod item;
+#[cfg(test)]
+mod rows;
 mod submitter;
 mod target;
 #[cfg(test)]

@@ -4,7 +4,7 @@ ghost use Rattle.count_lock.specs.Passes.{mine, number, IsPassOf, IsResting, IsS
 ghost use Rattle.executor_core.specs.Histories.{Outstanding, AllSpent};
 ghost use Rattle.xthread.specs.Answers.{request};
 ghost use Rattle.xthread.specs.Told.{IsLegal};
-ghost use Rattle.executor_tests.specs.Open.{AllSpentBut};
+ghost use Rattle.executor_core.specs.Histories.{AllSpentBut};
 
 use crate::item::Item;
 use kj_base::{StepId, Words};
@@ -34,7 +34,11 @@ pub fn ask<W: Wait>(
     ensures pass { IsSamePass pass.old pass.new × IsResting pass.new × IsLegal pass.new }
     ensures spent { AllSpent (mine pass.new) }
 {
-    let item = Item { step: 7, word };
+    let item = Item {
+        step: 7,
+        word,
+        mark: word,
+    };
     match executor.submit(rt, pass, StepId(7), one_word(word), item) {
         Ok(ticket) => {
             if cancel {

@@ -1,8 +1,9 @@
 //! A target that runs one request at a time.
-ghost use Rattle.std.specs.Prelude.{◌≡◌};
-ghost use Rattle.count_lock.specs.Passes.{mine, number, IsPassOf, IsResting, IsSamePass};
-ghost use Rattle.executor_core.specs.Histories.{AllFinished};
-ghost use Rattle.xthread.specs.Told.{IsLegal};
+ghost use Rattle.std.specs.Prelude.{◌≡◌, true};
+ghost use Rattle.count_lock.specs.Passes.{constant, seen, mine, number, IsPassOf, IsResting, IsSamePass};
+ghost use Rattle.executor_core.specs.Histories.{AllFinished, Settled};
+ghost use Rattle.xthread.specs.Told.{IsLegal, board_seen};
+ghost use Rattle.executor_tests.specs.Turns.{IsTurn};
 
 use crate::item::Item;
 use kj_base::Outcome;
@@ -22,6 +23,7 @@ pub fn serve_once<W: Wait>(
     requires finished { AllFinished (mine pass.old) }
     ensures pass { IsSamePass pass.old pass.new × IsResting pass.new × IsLegal pass.new }
     ensures finished { AllFinished (mine pass.new) }
+    ensures turn { IsTurn (mine pass.old) (mine pass.new) result }
 {
     match executor.next(rt, pass) {
         Next::Start(request, _, words, item) => {
@@ -45,6 +47,8 @@ pub fn serve<W: Wait>(
     requires target { number pass.old ≡ 0 }
     requires finished { AllFinished (mine pass.old) }
     ensures pass { IsSamePass pass.old pass.new × IsResting pass.new × IsLegal pass.new }
+    ensures closed { (board_seen pass.new).closed ≡ true }
+    ensures settled { Settled (constant pass.new) (seen pass.new) }
 {
     for _ in rt.forever() {
         let last = done.load(Ordering::SeqCst) >= callers;

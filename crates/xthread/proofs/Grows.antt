@@ -1,5 +1,7 @@
 -- What is kept behind the lock, after a call that changes the board.
 use Rattle.std.proofs.Common.{◌≡◌, ℕ, zero, suc, ◌<◌, ◌≤◌, ◌≢◌, ◌⊎◌, true, false, cond, List, [], ◌∷◌, ◌++◌, map, length, set, sym, refl, ap, ◌∙◌, subst, inl, inr, ⊎_elim, arith, length-append, length-set, Option, Some, None}
+use mathlib.Core.Logic.{dite}
+use native.Mathlib.Decide.{ℕ_discrete}
 use Rattle.std.specs.Prelude.{slice_get, slice_set}
 use Rattle.std.specs.Option.{option_map}
 use Rattle.std.proofs.lemmas.List.{length-map}
@@ -13,13 +15,16 @@ use Rattle.executor_core.specs.declared.entry.Entry.{Entry}
 use Rattle.executor_core.specs.declared.call.Call.{Call}
 use Rattle.executor_core.specs.declared.call.Reply.{Reply}
 use Rattle.executor_core.specs.Acts.{Desk, act, MayAct, is_queued, queued_state, set_state, new_request, shut, disconnected}
-use Rattle.executor_core.specs.Histories.{entry, Legal, board_of}
+use Rattle.executor_core.specs.Histories.{entry, Legal, board_of, starts_in, is_start}
 use Rattle.executor_core.proofs.Answered.{grows}
-use Rattle.executor_core.proofs.Laws.{short}
+use Rattle.executor_core.proofs.Laws.{short, starts_same}
 use Rattle.executor_core.proofs.Steps.{at_state, get_snoc, get_else, past}
+use Rattle.xthread.specs.Answers.{BackTells}
+use Rattle.xthread.specs.declared.answers.Back.{Back}
+use Rattle.xthread.specs.declared.answers.Back.TheVariants.{Unstarted, Ran}
 use Rattle.xthread.specs.declared.place.Place.{Place}
-use Rattle.xthread.specs.declared.place.Place.TheVariants.{Waiting, Finished}
-use Rattle.xthread.specs.Stock.{Whole, Keeps, Stock, HasPayload, HasResult}
+use Rattle.xthread.specs.declared.place.Place.TheVariants.{Waiting, Away, Finished}
+use Rattle.xthread.specs.Stock.{Whole, Keeps, Stock, HasPayload, HasResult, IsBack, Since, Came}
 
 module _ {A : Type 0} where
   out_of : (xs : List A) (k : ℕ) (x : A) → k ≡ length xs → slice_get xs k ≡ Some x → ⊥
@@ -43,17 +48,38 @@ module _ {A : Type 0} where
 set_is : (rs : List Request) (r : ℕ) (q : Request) (st : State) → slice_get rs r ≡ Some q → set_state rs r st ≡ set rs r (record q { state = st })
 set_is rs r q st at = ap (λ (o : Option Request). elim o as (λ _. List Request) [ None ↦ rs | Some q ↦ slice_set rs r (record q { state = st }) ]) at
 
+-- what is kept tells of the history whether its request started
+module _ {P R : Type 0} where
+  pub came_same : (es : List Entry) (e : Entry) (ps : List (Place P R)) → ((r : ℕ) → is_start r e ≡ false) → Came es ps → Came (es ++ e ∷ []) ps
+  came_same es e ps none h r place at = subst (λ (n : ℕ). Since n place) (sym (starts_same es e r (none r))) (h r place at)
+
+  pub came_set : (es : List Entry) (e : Entry) (ps : List (Place P R)) (r : ℕ) (new : Place P R) → ((k : ℕ) → k ≢ r → is_start k e ≡ false) → Since (starts_in (es ++ e ∷ []) r) new → Came es ps → Came (es ++ e ∷ []) (slice_set ps r new)
+  came_set es e ps r new none here h k place at = dite (ℕ_discrete k r)
+      (λ is. subst (λ (n : ℕ). Since (starts_in (es ++ e ∷ []) n) place) (sym is) (subst (λ (y : Place P R). Since (starts_in (es ++ e ∷ []) r) y) (was_set ps r k new place is at) here))
+      (λ ne. subst (λ (n : ℕ). Since n place) (sym (starts_same es e k (none k ne))) (h k place (sym (get_else ps r k new ne) ∙ at)))
+
+  pub came_more : (es : List Entry) (e : Entry) (ps : List (Place P R)) (p : P) → ((r : ℕ) → is_start r e ≡ false) → starts_in es (length ps) ≡ 0 → Came es ps → Came (es ++ e ∷ []) (ps ++ Waiting p ∷ [])
+  came_more es e ps p none new h k place at = ⊎_elim
+      (λ g. let is : Waiting p ≡ place = (let a = g.2 in cc) in subst (λ (y : Place P R). Since (starts_in (es ++ e ∷ []) k) y) is (starts_same es e k (none k) ∙ ap (starts_in es) g.0 ∙ new))
+      (λ g. subst (λ (n : ℕ). Since n place) (sym (starts_same es e k (none k))) (h k place (sym g ∙ at)))
+      (get_snoc ps (Waiting p) k)
+
+  pub back_tells : (es : List Entry) (e : Entry) (ps : List (Place P R)) (r : ℕ) (back : Back P R) → is_start r e ≡ false → Came es ps → IsBack (slice_get ps r) back → BackTells (es ++ e ∷ []) r back
+  back_tells es e ps r (Unstarted p) none h is = starts_same es e r none ∙ h r (Waiting p) is
+  back_tells es e ps r (Ran x) none h is = starts_same es e r none ∙ h r (Finished x) is
+
 module _ {P R : Type 0} (fits : P → ℕ → List ℕ → Type 0) where
   -- a call that changes the board
   pub whole_grows : (b d : Desk) (es es' : List Entry) (lr lr' : ℕ) (ps ps' : List (Place P R)) (pr pr' : ℕ) (k : ℕ) (call : Call) (reply : Reply)
       → Whole fits b es lr ps pr → MayAct b k call → (d, reply) ≡ act b k call → d ≢ b → d.limit ≡ b.limit
-      → es' ≡ es ++ entry k call reply ∷ [] → lr' ≡ lr → Stock fits d.requests ps' → pr' ≡ pr → Whole fits d es' lr' ps' pr'
-  whole_grows b d es es' lr lr' ps ps' pr pr' k call reply w may did changes same longer log_same stock room_same =
+      → es' ≡ es ++ entry k call reply ∷ [] → lr' ≡ lr → Stock fits d.requests ps' → Came es' ps' → pr' ≡ pr → Whole fits d es' lr' ps' pr'
+  whole_grows b d es es' lr lr' ps ps' pr pr' k call reply w may did changes same longer log_same stock came room_same =
       let g = grows b.limit es b d k call reply w.legal w.board_is may did changes in let l = w.log_fits in let f = w.fits_in in let s = w.small in
       record {
         legal = subst (λ (n : ℕ). Legal n es') (sym same) (subst (Legal b.limit) (sym longer) g.0);
         board_is = g.1 ∙ ap (board_of b.limit) (sym longer) ∙ ap (λ (n : ℕ). board_of n es') (sym same);
         stock = stock;
+        came = came;
         log_fits = omega arith;
         fits_in = omega arith;
         small = omega arith;

@@ -8,7 +8,7 @@ use Rattle.executor_core.specs.declared.call.Call.TheVariants as call
 use Rattle.executor_core.specs.declared.call.Reply.{Reply}
 use Rattle.executor_core.specs.declared.call.Reply.TheVariants as reply
 use Rattle.executor_core.specs.Acts.{Desk, act}
-use Rattle.executor_core.specs.Histories.{entry, board_of, Outstanding, Unfinished}
+use Rattle.executor_core.specs.Histories.{entry, board_of, starts_in, Outstanding, Unfinished}
 use Rattle.xthread.specs.declared.ticket.Ticket.{Ticket}
 use Rattle.xthread.specs.declared.answers.Next.{Next}
 use Rattle.xthread.specs.declared.answers.Next.TheVariants.{Start, Stop, Empty}
@@ -45,11 +45,17 @@ module _ {P : Type 0} (fits : P → ℕ → List ℕ → Type 0) where
   CancelTells Gains Stays own d c r (Asked t) = Gains (entry c (call.Cancel r) reply.Asked) × (request t ≡ r) × Outstanding own r
   CancelTells Gains Stays own d c r (TooLate t) = Stays (call.Cancel r) reply.TooLate × (request t ≡ r) × Outstanding own r
 
+module _ {P R : Type 0} where
+  -- the payload comes back where the history never starts the request, and a result where it does
+  abbrev pub BackTells : List Entry → ℕ → Back P R → Type 0
+  BackTells es r (Unstarted p) = starts_in es r ≡ 0
+  BackTells es r (Ran x) = starts_in es r ≡ 1
+
 module _ {P R : Type 0} (fits : P → ℕ → List ℕ → Type 0) where
   abbrev pub BackFits : Desk → ℕ → Back P R → Type 0
   BackFits d r (Unstarted p) = FitsRequest fits d r p
   BackFits d r (Ran x) = Unit {0}
 
-  abbrev pub CollectTells : (Entry → Type 0) → (Call → Reply → Type 0) → List Entry → Desk → ℕ → ℕ → Collected P R → Type 0
-  CollectTells Gains Stays own d c r (NotYet t) = Stays (call.Collect r) reply.NotYet × (request t ≡ r) × Outstanding own r
-  CollectTells Gains Stays own d c r (Ended o back) = Gains (entry c (call.Collect r) (reply.Ended o)) × BackFits d r back
+  abbrev pub CollectTells : (Entry → Type 0) → (Call → Reply → Type 0) → List Entry → Desk → List Entry → ℕ → ℕ → Collected P R → Type 0
+  CollectTells Gains Stays own d es c r (NotYet t) = Stays (call.Collect r) reply.NotYet × (request t ≡ r) × Outstanding own r
+  CollectTells Gains Stays own d es c r (Ended o back) = Gains (entry c (call.Collect r) (reply.Ended o)) × BackFits d r back × BackTells es r back

@@ -6,11 +6,11 @@ use Rattle.executor_core.specs.declared.request.State.TheVariants.{Queued, Done 
 use Rattle.executor_core.specs.declared.request.Request.{Request}
 use Rattle.executor_core.specs.declared.entry.Entry.{Entry}
 use Rattle.executor_core.specs.Acts.{Desk}
-use Rattle.executor_core.specs.Histories.{Legal, board_of}
+use Rattle.executor_core.specs.Histories.{Legal, board_of, starts_in}
 use Rattle.xthread.specs.declared.answers.Back.{Back}
 use Rattle.xthread.specs.declared.answers.Back.TheVariants.{Unstarted, Ran}
 use Rattle.xthread.specs.declared.place.Place.{Place}
-use Rattle.xthread.specs.declared.place.Place.TheVariants.{Waiting, Finished}
+use Rattle.xthread.specs.declared.place.Place.TheVariants.{Waiting, Away, Finished}
 
 -- the value behind the lock, as contracts see it: the limit of its board, and its history
 pub record Book : Type 0 where
@@ -51,11 +51,21 @@ module _ {P R : Type 0} where
   IsBack place (Unstarted p) = place ≡ Some (Waiting p)
   IsBack place (Ran r) = place ≡ Some (Finished r)
 
+  -- what is kept for a request that starts so often: its payload before the start, and a result only after it
+  abbrev pub Since : ℕ → Place P R → Type 0
+  Since n (Waiting p) = n ≡ 0
+  Since n Away = Unit {0}
+  Since n (Finished r) = n ≡ 1
+
+  abbrev pub Came : List Entry → List (Place P R) → Type 0
+  Came es places = (r : ℕ) (place : Place P R) → slice_get places r ≡ Some place → Since (starts_in es r) place
+
 -- what the value behind the lock keeps: a legal history, its board, what belongs to each request, and the room for all that may follow
 pub record Whole {P R : Type 0} (fits : P → ℕ → List ℕ → Type 0) (board : Desk) (log : List Entry) (log_room : ℕ) (places : List (Place P R)) (room : ℕ) : Type 0 where
   pub legal : Legal board.limit log
   pub board_is : board ≡ board_of board.limit log
   pub stock : Stock fits board.requests places
+  pub came : Came log places
   pub log_fits : 6 * board.limit + 1 ≤ log_room
   pub fits_in : board.limit ≤ room
   pub small : board.limit ≤ 1048576

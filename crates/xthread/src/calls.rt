@@ -1,6 +1,6 @@
 //! The calls of a submitter.
 ghost use Rattle.std.specs.Prelude.{◌≡◌, IfOk, IfErr};
-ghost use Rattle.count_lock.specs.Passes.{mine, number, IsPassOf, IsResting};
+ghost use Rattle.count_lock.specs.Passes.{seen, mine, number, IsPassOf, IsResting};
 ghost use Rattle.executor_core.specs.declared.call.Call.TheVariants.{Submit};
 ghost use Rattle.executor_core.specs.Acts.{refusal_reply};
 ghost use Rattle.executor_core.specs.Histories.{entry, Outstanding};
@@ -100,7 +100,8 @@ impl<P: Sent + Drop, R: Send + Drop> Executor<P, R> {
         }
     }
 
-    /// Takes the outcome of a request that has ended, and what it gives back.
+    /// Takes the outcome of a request that has ended, and what it gives back: its payload where it never started, and a result
+    /// where it did.
     pub fn collect<W: Wait>(
         &self,
         rt: &W,
@@ -110,7 +111,7 @@ impl<P: Sent + Drop, R: Send + Drop> Executor<P, R> {
         requires pass { IsPassOf self.now.lock pass.old × IsResting pass.old × IsLegal pass.old }
         requires own { Outstanding (mine pass.old) (request ticket) }
         ensures told { Told pass.old pass.new }
-        ensures answer { CollectTells P.fits (Gains pass.old pass.new) (Stays pass.old pass.new) (mine pass.new) (board_seen pass.new) (number pass.old) (request ticket) result }
+        ensures answer { CollectTells P.fits (Gains pass.old pass.new) (Stays pass.old pass.new) (mine pass.new) (board_seen pass.new) (seen pass.new) (number pass.old) (request ticket) result }
     {
         let mut held = self.lock.acquire(rt, pass);
         let caller = pass.number();

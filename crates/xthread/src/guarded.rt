@@ -177,7 +177,7 @@ impl<P: Sent + Drop, R: Send + Drop> Guarded<P, R> {
     pub(crate) fn collect(&mut self, caller: u32, ticket: Ticket) -> Collected<P, R>
         requires { Outstanding (of_caller caller self.old.entries) (request ticket) }
         ensures sound { Sound self.new }
-        ensures told { CollectTells P.fits (Grown self.old self.new) (Unchanged self.old self.new caller) (of_caller caller self.new.entries) (board self.new) caller (request ticket) result }
+        ensures told { CollectTells P.fits (Grown self.old self.new) (Unchanged self.old self.new caller) (of_caller caller self.new.entries) (board self.new) self.new.entries caller (request ticket) result }
     {
         let Ticket { request } = ticket;
         match self.board.collect(request) {

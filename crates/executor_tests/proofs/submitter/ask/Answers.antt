@@ -1,4 +1,4 @@
-use Rattle.executor_tests.proofs.Opens.{submitted_but}
+use Rattle.executor_core.proofs.Opens.{submitted_but}
 use Rattle.executor_tests.proofs.submitter.ask.Goals as goal
 
 pub withdraw-requires-clause-own : goal.withdraw-requires-clause-own

@@ -1,5 +1,5 @@
 use Rattle.std.proofs.Common.{refl, eq-eqb}
-use Rattle.executor_tests.proofs.Opens.{all_spent}
+use Rattle.executor_core.proofs.Opens.{all_spent}
 use Rattle.executor_tests.proofs.submitter.settle.Goals as goal
 
 pub returns-in-Ended-clause-spent : goal.returns-in-Ended-clause-spent

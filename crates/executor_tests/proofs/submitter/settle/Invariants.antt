@@ -3,7 +3,7 @@ use Rattle.count_lock.specs.Passes.{mine, IsPassOf, IsResting, IsSamePass}
 use Rattle.executor_core.specs.Histories.{Outstanding}
 use Rattle.xthread.specs.Answers.{request}
 use Rattle.xthread.specs.Told.{IsLegal}
-use Rattle.executor_tests.specs.Open.{AllSpentBut}
+use Rattle.executor_core.specs.Histories.{AllSpentBut}
 use Rattle.executor_tests.proofs.submitter.settle.Given as goal
 
 abbrev pub invariant-loop : goal.invariant-loop

@@ -1,8 +1,8 @@
 use Rattle.std.proofs.Common.{refl, eq-eqb, sym, ◌∙◌, subst, List}
 use Rattle.count_lock.specs.Passes.{mine}
 use Rattle.executor_core.specs.Histories.{Outstanding}
-use Rattle.executor_tests.specs.Open.{AllSpentBut}
-use Rattle.executor_tests.proofs.Opens.{all_spent, still_but}
+use Rattle.executor_core.specs.Histories.{AllSpentBut}
+use Rattle.executor_core.proofs.Opens.{all_spent, still_but}
 use Rattle.executor_tests.proofs.submitter.withdraw.Goals as goal
 
 pub returns-in-Withdrawn-clause-spent : goal.returns-in-Withdrawn-clause-spent

@@ -7,9 +7,8 @@ use Rattle.kj_base.specs.declared.outcomes.Outcome.{Outcome}
 use Rattle.executor_core.specs.declared.entry.Entry.{Entry}
 use Rattle.executor_core.specs.declared.call.Call.TheVariants as call
 use Rattle.executor_core.specs.declared.call.Reply.TheVariants as reply
-use Rattle.executor_core.specs.Histories.{entry, Outstanding, Unfinished, AllSpent, AllFinished, is_submit, is_spend, is_start, is_finish}
+use Rattle.executor_core.specs.Histories.{entry, Outstanding, Unfinished, AllSpent, AllFinished, AllSpentBut, AllFinishedBut, is_submit, is_spend, is_start, is_finish}
 use Rattle.executor_core.proofs.Laws.{outstanding_was, spent_is_out, unfinished_was, finished_is_out}
-use Rattle.executor_tests.specs.Open.{AllSpentBut, AllFinishedBut}
 
 -- after a submission all but the new request is spent
 pub submitted_but : (c n : ℕ) (step : StepId) (words : List ℕ) (mine more : List Entry) → more ≡ mine ++ entry c (call.Submit step words) (reply.Ticket n) ∷ [] → AllSpent mine → AllSpentBut n more
@@ -38,3 +37,7 @@ all_finished n o mine more is but r u = let e : Entry = entry 0 (call.Finish n o
 -- an entry that starts nothing
 pub still_finished : (e : Entry) (mine more : List Entry) → more ≡ mine ++ e ∷ [] → ((r : ℕ) → is_start r e ≡ false) → AllFinished mine → AllFinished more
 still_finished e mine more is none all r u = all r (unfinished_was r mine e (none r) (subst (λ (l : List Entry). Unfinished l r) is u))
+
+-- the same where one is not finished, as when the target is told to stop it
+pub still_finished_but : (n : ℕ) (e : Entry) (mine more : List Entry) → more ≡ mine ++ e ∷ [] → ((r : ℕ) → is_start r e ≡ false) → AllFinishedBut n mine → AllFinishedBut n more
+still_finished_but n e mine more is none but r u = but r (unfinished_was r mine e (none r) (subst (λ (l : List Entry). Unfinished l r) is u))

@@ -1,0 +1,325 @@
+//! Calls of one thread on a small executor, worked out by hand, with the history that they leave.
+ghost use Rattle.std.specs.Prelude.{◌≡◌};
+ghost use Rattle.count_lock.specs.Passes.{mine, number, IsPassOf, IsResting, IsSamePass};
+ghost use Rattle.executor_core.specs.Histories.{Outstanding, AllFinished};
+ghost use Rattle.xthread.specs.Answers.{request};
+ghost use Rattle.xthread.specs.Told.{IsLegal};
+
+use crate::item::Item;
+use crate::submitter::one_word;
+use executor_core::{Call, Entry, NotTaken, Reply};
+use kj_base::{Exception, Kind, Outcome, StepId, Words};
+use std::process::Abort;
+use std::sync::Wait;
+use std::test::Fail;
+use xthread::{Back, Cancelled, Collected, Executor, ExecutorPass, Next, Ticket};
+
+const FAILED: Exception = Exception {
+    kind: Kind::Failed,
+    code: 2,
+};
+
+const GONE: Exception = Exception {
+    kind: Kind::Disconnected,
+    code: 3,
+};
+
+// The payloads differ in their marks; the step and words of each submission are the same.
+fn item(mark: u64) -> Item
+    ensures { (result.step ≡ 7) × (result.word ≡ 5) }
+{
+    Item {
+        step: 7,
+        word: 5,
+        mark,
+    }
+}
+
+fn submit(caller: u32, request: u32) -> Entry {
+    Entry {
+        caller,
+        call: Call::Submit {
+            step: StepId(7),
+            words: one_word(5),
+        },
+        reply: Reply::Ticket(request),
+    }
+}
+
+fn start(request: u32) -> Entry {
+    Entry {
+        caller: 0,
+        call: Call::Next,
+        reply: Reply::Start {
+            request,
+            step: StepId(7),
+            words: one_word(5),
+        },
+    }
+}
+
+fn stop(request: u32) -> Entry {
+    Entry {
+        caller: 0,
+        call: Call::Next,
+        reply: Reply::Stop(request),
+    }
+}
+
+fn finish(request: u32, exception: Exception) -> Entry {
+    Entry {
+        caller: 0,
+        call: Call::Finish {
+            request,
+            outcome: Outcome::Broken(exception),
+        },
+        reply: Reply::Done,
+    }
+}
+
+fn cancel(caller: u32, request: u32, reply: Reply) -> Entry {
+    Entry {
+        caller,
+        call: Call::Cancel { request },
+        reply,
+    }
+}
+
+fn collect(caller: u32, request: u32, exception: Exception) -> Entry {
+    Entry {
+        caller,
+        call: Call::Collect { request },
+        reply: Reply::Ended(Outcome::Broken(exception)),
+    }
+}
+
+fn close() -> Entry {
+    Entry {
+        caller: 0,
+        call: Call::Close,
+        reply: Reply::Done,
+    }
+}
+
+fn is_same_outcome(a: &Outcome, b: &Outcome) -> bool {
+    match (a, b) {
+        (Outcome::Value(a), Outcome::Value(b)) => a.as_slice() == b.as_slice(),
+        (Outcome::Broken(a), Outcome::Broken(b)) => *a == *b,
+        _ => false,
+    }
+}
+
+fn is_same_call(a: &Call, b: &Call) -> bool {
+    match (a, b) {
+        (Call::Submit { step: s, words: v }, Call::Submit { step: t, words: w }) => {
+            *s == *t && v.as_slice() == w.as_slice()
+        }
+        (Call::Next, Call::Next) => true,
+        (
+            Call::Finish {
+                request: a,
+                outcome: o,
+            },
+            Call::Finish {
+                request: b,
+                outcome: p,
+            },
+        ) => *a == *b && is_same_outcome(o, p),
+        (Call::Cancel { request: a }, Call::Cancel { request: b }) => *a == *b,
+        (Call::Collect { request: a }, Call::Collect { request: b }) => *a == *b,
+        (Call::Close, Call::Close) => true,
+        _ => false,
+    }
+}
+
+// The replies that entries of a history have.
+fn is_same_reply(a: &Reply, b: &Reply) -> bool {
+    match (a, b) {
+        (Reply::Ticket(a), Reply::Ticket(b)) => *a == *b,
+        (
+            Reply::Start {
+                request: a,
+                step: s,
+                words: v,
+            },
+            Reply::Start {
+                request: b,
+                step: t,
+                words: w,
+            },
+        ) => *a == *b && *s == *t && v.as_slice() == w.as_slice(),
+        (Reply::Stop(a), Reply::Stop(b)) => *a == *b,
+        (Reply::Done, Reply::Done) => true,
+        (Reply::Withdrawn, Reply::Withdrawn) => true,
+        (Reply::Asked, Reply::Asked) => true,
+        (Reply::Ended(a), Reply::Ended(b)) => is_same_outcome(a, b),
+        _ => false,
+    }
+}
+
+fn is_same(a: &[Entry], b: &[Entry]) -> bool {
+    if a.len() != b.len() {
+        return false;
+    }
+    for (a, b) in a.iter().zip(b.iter()) {
+        let same = a.caller == b.caller
+            && is_same_call(&a.call, &b.call)
+            && is_same_reply(&a.reply, &b.reply);
+        if !same {
+            return false;
+        }
+    }
+    true
+}
+
+fn is_of_row(step: StepId, words: &Words, payload: &Item, mark: u64) -> bool {
+    step == StepId(7) && words.as_slice() == [5].as_slice() && payload.mark == mark
+}
+
+#[test]
+fn what_does_not_start_comes_back(rt: HostRuntime) -> Result<(), Fail> {
+    let (executor, mut target) = Executor::<Item, u64>::new(rt.alloc(), 1)?;
+    let Ok(mut pass) = executor.split(&mut target) else {
+        return Err(Fail::new("no number is spare"));
+    };
+    let ticket = match executor.submit(&rt, &mut pass, StepId(7), one_word(5), item(1)) {
+        Ok(ticket) => ticket,
+        Err(_) => panic!(rt; "not taken"),
+    };
+    let back = match executor.submit(&rt, &mut pass, StepId(7), one_word(5), item(2)) {
+        Ok(_ticket) => panic!(rt; "taken"),
+        Err((NotTaken::Closed, _)) => panic!(rt; "closed"),
+        Err((NotTaken::Full, back)) => back,
+    };
+    let withdrawn = match executor.cancel(&rt, &mut pass, ticket) {
+        Cancelled::Withdrawn(back) => back,
+        Cancelled::Asked(_ticket) => panic!(rt; "asked"),
+        Cancelled::TooLate(_ticket) => panic!(rt; "too late"),
+    };
+    assert!(rt; back.mark == 2 && withdrawn.mark == 1);
+    let entries = executor.history(&rt, target);
+    let want = [submit(1, 0), cancel(1, 0, Reply::Withdrawn)];
+    assert!(rt; is_same(entries.as_slice(), want.as_slice()));
+    Ok(())
+}
+
+// A request that runs can only be asked to end: it ends by its finish.
+fn cancel_while_it_runs<W: Wait + Abort>(
+    rt: &W,
+    executor: &Executor<Item, u64>,
+    target: &mut ExecutorPass<Item, u64>,
+    pass: &mut ExecutorPass<Item, u64>,
+)
+    requires target { IsPassOf executor.now.lock target.old × IsResting target.old × IsLegal target.old × (number target.old ≡ 0) × AllFinished (mine target.old) }
+    requires pass { IsPassOf executor.now.lock pass.old × IsResting pass.old × IsLegal pass.old }
+    ensures target { IsSamePass target.old target.new × IsResting target.new × IsLegal target.new }
+    ensures finished { AllFinished (mine target.new) }
+    ensures pass { IsSamePass pass.old pass.new × IsResting pass.new × IsLegal pass.new }
+{
+    let ticket = match executor.submit(rt, pass, StepId(7), one_word(5), item(1)) {
+        Ok(ticket) => ticket,
+        Err(_) => panic!(rt; "not taken"),
+    };
+    let Next::Start(request, step, words, payload) = executor.next(rt, target) else {
+        panic!(rt; "nothing to start");
+    };
+    assert!(rt; request == 0 && is_of_row(step, &words, &payload, 1));
+    let Next::Empty = executor.next(rt, target) else {
+        panic!(rt; "something to do");
+    };
+    let ticket = match executor.cancel(rt, pass, ticket) {
+        Cancelled::Asked(ticket) => ticket,
+        Cancelled::Withdrawn(_) => panic!(rt; "withdrawn"),
+        Cancelled::TooLate(_ticket) => panic!(rt; "too late"),
+    };
+    let ticket = match executor.collect(rt, pass, ticket) {
+        Collected::NotYet(ticket) => ticket,
+        Collected::Ended(_, _) => panic!(rt; "ended"),
+    };
+    let Next::Stop(told) = executor.next(rt, target) else {
+        panic!(rt; "nothing to stop");
+    };
+    assert!(rt; told == 0);
+    executor.finish(rt, target, request, Outcome::Broken(FAILED), 9);
+    collect_what_ran(rt, executor, pass, ticket)
+}
+
+// A request that has ended can't be cancelled, and gives its result.
+fn collect_what_ran<W: Wait + Abort>(
+    rt: &W,
+    executor: &Executor<Item, u64>,
+    pass: &mut ExecutorPass<Item, u64>,
+    ticket: Ticket,
+)
+    requires pass { IsPassOf executor.now.lock pass.old × IsResting pass.old × IsLegal pass.old }
+    requires own { Outstanding (mine pass.old) (request ticket) }
+    ensures pass { IsSamePass pass.old pass.new × IsResting pass.new × IsLegal pass.new }
+{
+    let ticket = match executor.cancel(rt, pass, ticket) {
+        Cancelled::TooLate(ticket) => ticket,
+        Cancelled::Withdrawn(_) => panic!(rt; "withdrawn"),
+        Cancelled::Asked(_ticket) => panic!(rt; "asked"),
+    };
+    match executor.collect(rt, pass, ticket) {
+        Collected::Ended(Outcome::Broken(exception), Back::Ran(given)) => {
+            assert!(rt; exception == FAILED && given == 9)
+        }
+        Collected::Ended(_, _) => panic!(rt; "another outcome"),
+        Collected::NotYet(_ticket) => panic!(rt; "not yet"),
+    }
+}
+
+// A request that is queued at the closing gives its payload back, and the next one isn't taken.
+fn close_with_one_queued<W: Wait + Abort>(
+    rt: &W,
+    executor: &Executor<Item, u64>,
+    target: &mut ExecutorPass<Item, u64>,
+    pass: &mut ExecutorPass<Item, u64>,
+)
+    requires target { IsPassOf executor.now.lock target.old × IsResting target.old × IsLegal target.old × (number target.old ≡ 0) × AllFinished (mine target.old) }
+    requires pass { IsPassOf executor.now.lock pass.old × IsResting pass.old × IsLegal pass.old }
+    ensures target { IsSamePass target.old target.new × IsResting target.new × IsLegal target.new }
+{
+    let ticket = match executor.submit(rt, pass, StepId(7), one_word(5), item(2)) {
+        Ok(ticket) => ticket,
+        Err(_) => panic!(rt; "not taken"),
+    };
+    executor.close(rt, target);
+    let back = match executor.submit(rt, pass, StepId(7), one_word(5), item(3)) {
+        Err((NotTaken::Closed, back)) => back,
+        Err((NotTaken::Full, _)) => panic!(rt; "full"),
+        Ok(_ticket) => panic!(rt; "taken"),
+    };
+    assert!(rt; back.mark == 3);
+    match executor.collect(rt, pass, ticket) {
+        Collected::Ended(Outcome::Broken(exception), Back::Unstarted(back)) => {
+            assert!(rt; exception == GONE && back.mark == 2)
+        }
+        Collected::Ended(_, _) => panic!(rt; "another outcome"),
+        Collected::NotYet(_ticket) => panic!(rt; "not yet"),
+    }
+}
+
+#[test]
+fn a_request_is_cancelled_while_it_runs(rt: HostRuntime) -> Result<(), Fail> {
+    let (executor, mut target) = Executor::<Item, u64>::new(rt.alloc(), 2)?;
+    let Ok(mut pass) = executor.split(&mut target) else {
+        return Err(Fail::new("no number is spare"));
+    };
+    cancel_while_it_runs(&rt, &executor, &mut target, &mut pass);
+    close_with_one_queued(&rt, &executor, &mut target, &mut pass);
+    let entries = executor.history(&rt, target);
+    let want = [
+        submit(1, 0),
+        start(0),
+        cancel(1, 0, Reply::Asked),
+        stop(0),
+        finish(0, FAILED),
+        collect(1, 0, FAILED),
+        submit(1, 1),
+        close(),
+        collect(1, 1, GONE),
+    ];
+    assert!(rt; is_same(entries.as_slice(), want.as_slice()));
+    Ok(())
+}
