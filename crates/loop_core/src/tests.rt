@@ -64,7 +64,7 @@ fn continuations_run_after_their_dependencies_went(rt: HostRuntime) -> Result<()
     let limits = Limits { slots: 8, names: 2 };
     let mut events = Loop::new(rt.alloc(), limits)?;
     let mut steps = Teller {
-        told: Vec::new(rt.alloc()),
+        told: Vec::with_capacity(rt.alloc(), 16)?,
     };
     assert_eq!(rt; events.apply(later(1), &mut steps), Ok(()));
     assert_eq!(rt;
@@ -98,7 +98,7 @@ fn want_of_memory_stops_the_loop(rt: HostRuntime) -> Result<(), Fail> {
     let limits = Limits { slots: 8, names: 2 };
     let mut events = Loop::new(rt.alloc(), limits)?;
     let mut steps = Teller {
-        told: Vec::new(rt.alloc()),
+        told: Vec::with_capacity(rt.alloc(), 16)?,
     };
     assert_eq!(rt; events.apply(later(1), &mut steps), Ok(()));
     assert_eq!(rt; events.apply(then(2, 1, 9, 9), &mut steps), Ok(()));
