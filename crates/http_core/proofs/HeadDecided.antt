@@ -233,7 +233,7 @@ section_step text shorter = by_end (newline_decided text)
       (
         All-cons IsField f s.0.0 x.0 s.2.0,
         x.1 ∙ ap (λ (l : List ℕ). print_field f ++ l) s.2.1 ∙ sym (append_assoc (print_field f) (print_section s.0.0 s.0.1) s.1)
-        ∙ ap (λ (l : List ℕ). l ++ s.1) (sym (append_assoc (print_field f) (flat_map print_field s.0.0) (print_end s.0.1))),
+            ∙ ap (λ (l : List ℕ). l ++ s.1) (sym (append_assoc (print_field f) (flat_map print_field s.0.0) (print_end s.0.1))),
       ),
     )
     by_others f middle x bare (inr none) = inr (λ y. none_behind f middle x bare none y.0.0 y.0.1 y.1 y.2)
