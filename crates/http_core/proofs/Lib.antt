@@ -6,3 +6,5 @@ pub mod ServeLemmas
 pub mod ConnectionLemmas
 pub mod UniqueLemmas
 pub mod TotalLemmas
+pub mod HeadDecided
+pub mod BodyDecided

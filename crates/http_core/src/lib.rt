@@ -11,6 +11,6 @@ mod tests;
 mod text;
 
 pub use connection::{Connection, Fed, State};
-pub use laws::{one_output, one_reading, some_reading};
+pub use laws::{one_output, one_reading, some_output, some_reading};
 pub use message::{Answer, End, Request};
 pub use service::{Echo, Service, Target};
