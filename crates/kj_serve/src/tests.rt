@@ -401,64 +401,53 @@ struct Example<'a> {
     output: &'a [u8],
 }
 
-/// The k-th read fails, for each k until a run meets no fault.
-fn failing_reads<R: Abort + Wait + Threads + Sync>(
-    rt: &R,
-    alloc: Global,
-    example: Example<'_>,
-) -> Result<(), Fail> {
-    let mut met = true;
-    for k in 0..60 {
-        let reads = failing(alloc, k, 7)?;
-        let ended = done(
-            rt,
-            alloc,
-            example.words,
-            example.octets,
-            reads,
-            Vec::new(alloc),
-        )?;
-        met = ended.reads > 0;
-        let right = if met {
-            ended.is(3, b"")
-        } else {
-            ended.is(example.status, example.output)
-        };
-        assert!(rt; right, "read {k}");
-        if !met {
-            break;
-        }
-    }
-    assert!(rt; !met);
-    Ok(())
+/// Which call fails.
+#[derive(Clone, Copy)]
+enum Call {
+    Read,
+    Write,
 }
 
-/// The k-th write fails likewise; what was written before it is a front of the output.
-fn failing_writes<R: Abort + Wait + Threads + Sync>(
+/// The program on an example of which the k-th read or write fails.
+fn failed<R: Wait + Threads + Sync>(
     rt: &R,
     alloc: Global,
     example: Example<'_>,
+    call: Call,
+    k: usize,
+) -> Result<Ended, NoMemory> {
+    let turns = failing(alloc, k, 7)?;
+    let none = Vec::new(alloc);
+    let (reads, writes) = match call {
+        Call::Read => (turns, none),
+        Call::Write => (none, turns),
+    };
+    done(rt, alloc, example.words, example.octets, reads, writes)
+}
+
+/// Whether a run ended as it must: a failed read leaves nothing written, a failed write a front of the output.
+fn is_right(ended: &Ended, example: Example<'_>) -> bool {
+    if ended.reads > 0 {
+        return ended.is(3, b"");
+    }
+    if ended.written.faults() > 0 {
+        return ended.status == 4 && example.output.starts_with(ended.written.as_slice());
+    }
+    ended.is(example.status, example.output)
+}
+
+/// The k-th call fails, for each k until a run meets no fault.
+fn fail_each<R: Abort + Wait + Threads + Sync>(
+    rt: &R,
+    alloc: Global,
+    example: Example<'_>,
+    call: Call,
 ) -> Result<(), Fail> {
     let mut met = true;
     for k in 0..60 {
-        let writes = failing(alloc, k, 7)?;
-        let ended = done(
-            rt,
-            alloc,
-            example.words,
-            example.octets,
-            Vec::new(alloc),
-            writes,
-        )?;
-        met = ended.written.faults() > 0;
-        let count = ended.written.as_slice().len();
-        assert!(rt; count <= example.output.len());
-        let right = if met {
-            ended.is(4, &example.output[..count])
-        } else {
-            ended.is(example.status, example.output)
-        };
-        assert!(rt; right, "write {k}");
+        let ended = failed(rt, alloc, example, call, k)?;
+        assert!(rt; is_right(&ended, example), "call {k}");
+        met = ended.reads > 0 || ended.written.faults() > 0;
         if !met {
             break;
         }
@@ -498,8 +487,8 @@ fn failing_calls(rt: HostRuntime) -> Result<(), Fail> {
             status,
             output,
         };
-        failing_reads(&rt, alloc, example)?;
-        failing_writes(&rt, alloc, example)?;
+        fail_each(&rt, alloc, example, Call::Read)?;
+        fail_each(&rt, alloc, example, Call::Write)?;
     }
     Ok(())
 }
