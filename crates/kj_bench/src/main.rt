@@ -3,20 +3,27 @@
 //! long they took.
 #![tactic(auto)]
 
+mod executor;
 mod http;
 
 use anyhow::{Result, bail, ensure};
+use executor::{RACES, Race, race_named, run_race};
 use http::{SMALL_BODY, WHOLE_BODY, WORKS, Work};
 use std::env;
 use std::rt::{Clock, Env};
+use std::sync::Wait;
+use std::thread::{Threads, available_parallelism};
 use std::time::{Duration, Instant};
 
 /// One round of everything.
-fn all(rt: &impl AllocGlobal) -> Result<()> {
+fn all<R: AllocGlobal + Wait + Threads + Sync>(rt: &R) -> Result<()> {
     for (name, work) in WORKS.iter() {
         let text = http::text_of(rt.alloc(), *work, SMALL_BODY)?;
         let done = http::round(rt.alloc(), *work, text.as_slice())?;
         ensure!(done.items == 1, "{name} read nothing");
+    }
+    for (_, race) in RACES.iter() {
+        run_race(rt, rt.alloc(), *race, 1)?;
     }
     Ok(())
 }
@@ -58,7 +65,26 @@ fn measure(
     Ok(())
 }
 
-fn run(rt: &(impl AllocGlobal + Clock + Env + Print)) -> Result<()> {
+/// So many requests of each thread of a race, with its figures.
+fn measure_race<R: AllocGlobal + Clock + Print + Wait + Threads + Sync>(
+    rt: &R,
+    word: &str,
+    race: Race,
+    count: u32,
+) -> Result<()> {
+    let start = Instant::now(rt)?;
+    run_race(rt, rt.alloc(), race, count)?;
+    let micros = micros_of(start.elapsed(rt)?);
+    let requests = u64::from(count).saturating_mul(u64::from(race.threads));
+    let request_rate = rate(requests, micros);
+    let processors = available_parallelism(rt)?;
+    println!(rt;
+        "{word}: {requests} requests in {micros} microseconds, {request_rate} a second, on {processors} processors"
+    )?;
+    Ok(())
+}
+
+fn run<R: AllocGlobal + Clock + Env + Print + Wait + Threads + Sync>(rt: &R) -> Result<()> {
     let mut words = env::args(rt)?;
     let _program = words.next();
     let Some(word) = words.next() else {
@@ -67,6 +93,9 @@ fn run(rt: &(impl AllocGlobal + Clock + Env + Print)) -> Result<()> {
     let Some(count) = words.next() else {
         bail!("a word and a count are wanted");
     };
+    if let Some(race) = race_named(word.as_str()) {
+        return measure_race(rt, word.as_str(), race, count.as_str().parse::<u32>()?);
+    }
     let Some(work) = http::named(word.as_str()) else {
         bail!("no such word: {word}");
     };
