@@ -1,5 +1,5 @@
 -- What each change of the board leaves linked.
-use Rattle.std.proofs.Common.{◌≡◌, ◌≢◌, ℕ, ◌+◌, ◌<◌, ◌≤◌, ◌⊎◌, Bool, true, false, cond, List, [], ◌∷◌, ◌++◌, map, length, length-set, length-append, refl, ap, ◌∙◌, subst, sym, arith, inl, inr, ⊎_elim, Option, Some, None}
+use Rattle.std.proofs.Common.{◌≡◌, ◌≢◌, ℕ, ◌+◌, ◌<◌, ◌≤◌, ◌⊎◌, Bool, true, false, cond, List, [], ◌∷◌, ◌++◌, map, length, length-set, length-append, refl, ap, ◌∙◌, sym, arith, inl, inr, ⊎_elim, Option, Some, None}
 use Rattle.std.proofs.lemmas.Bool.{cases_lt}
 use Rattle.std.proofs.lemmas.List.{length-map}
 use Rattle.std.proofs.lemmas.Option.{slice_get-map, slice_get_within}
@@ -12,8 +12,8 @@ use Rattle.executor_core.specs.declared.request.State.{State}
 use Rattle.executor_core.specs.declared.request.State.TheVariants.{Queued, Executing, Canceling, Stopping, Done as DoneState, Spent}
 use Rattle.executor_core.specs.declared.request.Request.{Request}
 use Rattle.executor_core.specs.Acts.{is_queued, queued_state, canceling_state, running_state, set_state, shut, disconnected}
-use Rattle.executor_core.specs.Chains.{Marks, IsChain, IsAfter, Chained, Without, With, bit, marks, Linked}
-use Rattle.executor_core.proofs.Chains.{same_chain, clash}
+use Rattle.executor_core.specs.Chains.{Marks, IsChain, IsAfter, Without, With, bit, marks, Linked}
+use Rattle.executor_core.proofs.Chains.{same_chain}
 use Rattle.executor_core.proofs.Steps.{at_state, get_snoc, past}
 
 abbrev pub mark : Bool → ℕ

@@ -255,12 +255,12 @@ impl Board {
         set_state_at(&mut self.requests, at, State::Canceling);
     }
 
-    fn first_queued(&mut self) -> Option<u32>
-        ensures same { self.new ≡ self.old }
-        ensures value { result ≡ least is_queued self.old.requests }
-        ensures first { IfSome result (λ r. (marks queued_state self.old.requests r ≡ 1) × ((k : ℕ) → k < r → marks queued_state self.old.requests k ≡ 0)) }
-        ensures within { IfSome result (λ r. r < length self.old.requests) }
+    fn first_queued(&self) -> Option<u32>
+        ensures value { result ≡ least is_queued self.now.requests }
+        ensures first { IfSome result (λ r. (marks queued_state self.now.requests r ≡ 1) × ((k : ℕ) → k < r → marks queued_state self.now.requests k ≡ 0)) }
+        ensures within { IfSome result (λ r. r < length self.now.requests) }
     {
+        // Numbers of requests are below the limit, so they fit a `u32`.
         let _limit = self.limit;
         match self.waiting.least() {
             Some(at) => Some(at as u32),
@@ -273,6 +273,7 @@ impl Board {
         ensures value { result ≡ least is_canceling self.old.requests }
         ensures within { IfSome result (λ r. r < length self.old.requests) }
     {
+        // As above.
         let _limit = self.limit;
         match least_canceling(self.requests.as_slice(), &self.running, self.canceling_from) {
             Some(at) => {

@@ -14,10 +14,7 @@ pub(crate) fn least_canceling(all: &[Request], running: &Chain, from: usize) -> 
     ensures none { IfNone result ((least is_canceling all.now ≡ None) × ((k : ℕ) → marks canceling_state all.now k ≡ 0)) }
 {
     let mut at = from;
-    for _ in 0..all.len() {
-        if at >= running.bound() {
-            return None;
-        }
+    while at < running.bound() {
         if all[at].is_canceling() {
             return Some(at);
         }

@@ -1,4 +1,4 @@
-use Rattle.std.proofs.Common.{arith, ap, sym, ◌≡◌, ◌≤◌, ◌∙◌, map, length, subst, List}
+use Rattle.std.proofs.Common.{arith, ap, sym, ◌∙◌, length, subst, List}
 use Rattle.std.proofs.lemmas.List.{length-map}
 use Rattle.executor_core.specs.declared.request.Request.{Request}
 use Rattle.executor_core.specs.Acts.{shut}

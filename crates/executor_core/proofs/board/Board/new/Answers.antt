@@ -1,4 +1,4 @@
-use Rattle.std.proofs.Common.{arith, ap, sym, refl, ◌≡◌, ◌≤◌, ◌∙◌, length, subst, List, []}
+use Rattle.std.proofs.Common.{arith, ap, sym, refl, ◌≡◌, length, subst, List, []}
 use Rattle.executor_core.specs.declared.request.Request.{Request}
 use Rattle.executor_core.specs.Acts.{queued_state, running_state}
 use Rattle.executor_core.specs.Chains.{Linked, marks}

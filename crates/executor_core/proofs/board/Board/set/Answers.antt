@@ -1,4 +1,4 @@
-use Rattle.std.proofs.Common.{arith, ap, sym, ◌≡◌, ◌≤◌, ◌∙◌, length, subst, List, Some}
+use Rattle.std.proofs.Common.{arith, ap, sym, ◌≡◌, ◌∙◌, length, subst, List, Some}
 use Rattle.std.specs.Prelude.{slice_get}
 use Rattle.std.proofs.lemmas.Option.{slice_get_within}
 use Rattle.executor_core.specs.declared.request.Request.{Request}

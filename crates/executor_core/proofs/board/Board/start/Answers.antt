@@ -1,12 +1,10 @@
-use Rattle.std.proofs.Common.{arith, ap, sym, refl, inl, inr, ◌≡◌, ◌≢◌, ◌⊎◌, ◌+◌, ◌≤◌, ◌<◌, ◌∙◌, true, false, length, subst, List, Some, Bool, ℕ}
-use Rattle.std.specs.Prelude.{slice_get}
+use Rattle.std.proofs.Common.{arith, ap, sym, refl, ◌≡◌, ◌≢◌, ◌⊎◌, ◌+◌, ◌<◌, ◌∙◌, length, subst, List, ℕ}
 use Rattle.std.proofs.lemmas.Option.{slice_get_within}
 use Rattle.executor_core.specs.declared.request.Request.{Request}
-use Rattle.executor_core.specs.declared.request.State.{State}
-use Rattle.executor_core.specs.declared.request.State.TheVariants.{Executing, Canceling, Done as DoneState, Spent}
-use Rattle.executor_core.specs.Acts.{Desk, queued_state, running_state}
+use Rattle.executor_core.specs.declared.request.State.TheVariants.{Executing}
+use Rattle.executor_core.specs.Acts.{Desk, queued_state}
 use Rattle.executor_core.specs.Chains.{Linked, marks}
-use Rattle.executor_core.proofs.Links.{here, of_mark, length_state, start_linked}
+use Rattle.executor_core.proofs.Links.{of_mark, length_state, start_linked}
 use Rattle.executor_core.proofs.board.Board.start.Goals as goal
 
 pub remove-requires : goal.remove-requires

@@ -1,4 +1,4 @@
-use Rattle.std.proofs.Common.{arith, ap, sym, refl, ◌≡◌, ◌≤◌, ◌∙◌, ◌∷◌, ◌++◌, [], length, length-append, subst, List, ℕ, ◌+◌}
+use Rattle.std.proofs.Common.{arith, ap, sym, refl, ◌≡◌, ◌∙◌, ◌∷◌, ◌++◌, [], length, length-append, subst, List, ℕ, ◌+◌}
 use Rattle.executor_core.specs.declared.request.Request.{Request}
 use Rattle.executor_core.specs.Acts.{new_request}
 use Rattle.executor_core.specs.Chains.{Linked}

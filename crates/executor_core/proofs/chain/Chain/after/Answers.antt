@@ -1,4 +1,4 @@
-use Rattle.std.proofs.Common.{arith, refl, ◌≡◌, ◌<◌, length, ℕ, Some}
+use Rattle.std.proofs.Common.{arith, refl, ◌≡◌, length, ℕ}
 use Rattle.std.proofs.lemmas.Option.{slice_get_read}
 use Rattle.executor_core.proofs.Chains.{within_chain}
 use Rattle.executor_core.proofs.chain.Chain.after.Goals as goal

@@ -1,7 +1,7 @@
-use Rattle.std.proofs.Common.{arith, ap, refl, sym, ◌∙◌, ◌≡◌, ◌≤◌, ◌+◌, ◌<◌, length, length-set, ℕ, List, subst, Some}
+use Rattle.std.proofs.Common.{arith, ap, refl, sym, ◌∙◌, ◌≡◌, ◌≤◌, length, ℕ, List, subst, Some}
 use Rattle.std.specs.Prelude.{slice_get}
 use Rattle.std.proofs.lemmas.Option.{slice_get_read}
-use Rattle.executor_core.specs.Chains.{Marks, Chained, IsBefore, IsAfter, LinksLeft, LinksRight}
+use Rattle.executor_core.specs.Chains.{Marks, Chained, LinksLeft, LinksRight}
 use Rattle.executor_core.proofs.Chains.{leaves, within_chain, left_length, right_length}
 use Rattle.executor_core.proofs.chain.Chain.remove.Goals as goal
 
