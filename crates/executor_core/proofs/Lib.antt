@@ -5,3 +5,5 @@ pub mod Weights
 pub mod Laws
 pub mod Answered
 pub mod Opens
+pub mod Chains
+pub mod Links

@@ -1,5 +1,5 @@
 -- What one entry more does to what a caller's own entries leave open.
-use Rattle.std.proofs.Common.{◌≡◌, ℕ, ◌≢◌, ◌==◌, Bool, true, false, List, [], ◌∷◌, ◌++◌, sym, refl, ap, ◌∙◌, subst, eq-eqb, ne_eqb}
+use Rattle.std.proofs.Common.{◌≡◌, ℕ, true, false, List, [], ◌∷◌, ◌++◌, sym, refl, ap, ◌∙◌, subst, eq-eqb, ne_eqb}
 use mathlib.Core.Logic.{dite}
 use native.Mathlib.Decide.{ℕ_discrete}
 use Rattle.kj_base.specs.declared.numbers.StepId.{StepId}
@@ -7,7 +7,7 @@ use Rattle.kj_base.specs.declared.outcomes.Outcome.{Outcome}
 use Rattle.executor_core.specs.declared.entry.Entry.{Entry}
 use Rattle.executor_core.specs.declared.call.Call.TheVariants as call
 use Rattle.executor_core.specs.declared.call.Reply.TheVariants as reply
-use Rattle.executor_core.specs.Histories.{entry, Outstanding, Unfinished, AllSpent, AllFinished, AllSpentBut, AllFinishedBut, is_submit, is_spend, is_start, is_finish}
+use Rattle.executor_core.specs.Histories.{entry, Outstanding, Unfinished, AllSpent, AllFinished, AllSpentBut, AllFinishedBut, is_submit, is_spend, is_start}
 use Rattle.executor_core.proofs.Laws.{outstanding_was, spent_is_out, unfinished_was, finished_is_out}
 
 -- after a submission all but the new request is spent

@@ -72,7 +72,7 @@ queued_not_running Stopping e = absurd cc
 queued_not_running (DoneState o) e = refl
 queued_not_running Spent e = refl
 
-canceling_runs : (st : State) → canceling_state st ≡ true → running_state st ≡ true
+pub canceling_runs : (st : State) → canceling_state st ≡ true → running_state st ≡ true
 canceling_runs Queued e = absurd cc
 canceling_runs Executing e = refl
 canceling_runs Canceling e = refl

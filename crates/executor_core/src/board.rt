@@ -1,39 +1,43 @@
 //! The board and its calls.
-ghost use Rattle.std.specs.Prelude.{◌≡◌, ◌+◌, ◌^◌, ◌<◌, ◌≤◌, [], IfOk, IfSome, Some, length, false, true, slice_get, IsTrue, ◌↔◌};
-ghost use Rattle.executor_core.specs.Acts.{Desk, desk, act, MayAct, IsRunning, NoneRuns, least, is_queued, is_canceling, queued_state, canceling_state, with_state, submitted, submit_reply, nexted, next_reply, finished, cancelled, cancel_reply, collected, collect_reply, closes, shut};
+ghost use Rattle.std.specs.Prelude.{◌≡◌, ◌+◌, ◌^◌, ◌<◌, ◌≤◌, ℕ, [], IfOk, IfSome, Some, length, false, true, slice_get, IsTrue, ◌↔◌};
+ghost use Rattle.executor_core.specs.Acts.{Desk, desk, act, MayAct, IsRunning, NoneRuns, least, is_queued, is_canceling, queued_state, canceling_state, running_state, with_state, submitted, submit_reply, nexted, next_reply, finished, cancelled, cancel_reply, collected, collect_reply, closes, shut};
+ghost use Rattle.executor_core.specs.Chains.{marks};
 ghost use Rattle.executor_core.specs.declared.call.Reply.TheVariants.{Done};
-ghost use Rattle.executor_core.specs.declared.request.State.TheVariants.{Canceling};
+ghost use Rattle.executor_core.specs.declared.request.State.TheVariants.{Executing, Canceling, Spent};
 
 use crate::answers::{Cancelling, Chosen, NotTaken};
 use crate::call::{Call, Reply};
+use crate::chain::Chain;
 use crate::request::{Request, State};
-use crate::search::{least_canceling, least_queued, shut_all};
+use crate::search::{instead, least_canceling, lesser, set_state_at, shut_all};
 use kj_base::{NoMemory, Outcome, StepId, Words};
 use std::alloc::Global;
 use std::marker::Model;
 
 /// Contracts see it as a `Desk`: its limit, whether it was closed, and its requests.
 ///
-/// No request below `queued_from` is queued, and none below `canceling_from` is to be told that it is to end.
-/// So the target finds its next request without going over those that have ended.
+/// The requests that wait for their start are linked, and so are those that the target runs: it finds its next request
+/// without going over any that has ended. None below `canceling_from` is to be told that it is to end.
 #[derive(Drop)]
 pub struct Board {
     limit: u32,
     closed: bool,
     pub(crate) requests: Vec<Request>,
-    queued_from: usize,
+    waiting: Chain,
+    running: Chain,
     canceling_from: usize,
 }
 
 impl Model for Board {
     ghost use Rattle.std.specs.Prelude.{◌≤◌, length, vec_capacity};
-    ghost use Rattle.executor_core.specs.Acts.{Desk, desk, NoneBelow, is_queued, is_canceling};
+    ghost use Rattle.executor_core.specs.Acts.{Desk, desk};
+    ghost use Rattle.executor_core.specs.Chains.{Linked};
 
     ghost Value = { Desk };
 
     ghost view = { λ b. desk b.limit b.closed b.requests.items };
 
-    ghost invariant = { λ b. (length b.requests.items ≤ b.limit) × (b.limit ≤ vec_capacity b.requests) × (b.queued_from ≤ length b.requests.items) × NoneBelow is_queued b.requests.items b.queued_from × NoneBelow is_canceling b.requests.items b.canceling_from };
+    ghost invariant = { λ b. (length b.requests.items ≤ b.limit) × (b.limit ≤ vec_capacity b.requests) × Linked b.limit b.requests.items b.waiting b.running b.canceling_from };
 }
 
 impl Board {
@@ -45,7 +49,8 @@ impl Board {
             limit,
             closed: false,
             requests: Vec::with_capacity(alloc, limit as usize)?,
-            queued_from: 0,
+            waiting: Chain::new(alloc, limit as usize)?,
+            running: Chain::new(alloc, limit as usize)?,
             canceling_from: 0,
         })
     }
@@ -117,6 +122,7 @@ impl Board {
             words,
             state: State::Queued,
         });
+        self.waiting.push(count);
         Ok(count as u32)
     }
 
@@ -128,7 +134,7 @@ impl Board {
             Some(request) => {
                 let step = self.at(request).step;
                 let words = self.at(request).words.copy();
-                self.set(request, State::Executing);
+                self.start(request);
                 Chosen::Start {
                     request,
                     step,
@@ -149,7 +155,11 @@ impl Board {
         requires { IsRunning self.old request }
         ensures { (self.new, Done) ≡ finished self.old request outcome }
     {
-        self.set(request, State::Done(outcome));
+        let at = request as usize;
+        let next = self.running.after(at);
+        self.canceling_from = instead(self.canceling_from, at, next);
+        self.running.remove(at);
+        set_state_at(&mut self.requests, at, State::Done(outcome));
     }
 
     pub fn cancel(&mut self, request: u32) -> Cancelling
@@ -158,7 +168,7 @@ impl Board {
     {
         match self.at(request).state {
             State::Queued => {
-                self.set(request, State::Spent);
+                self.withdraw(request);
                 Cancelling::Withdrawn
             }
             State::Executing => {
@@ -194,6 +204,7 @@ impl Board {
             return false;
         }
         self.closed = true;
+        self.waiting.clear();
         shut_all(&mut self.requests);
         true
     }
@@ -205,41 +216,55 @@ impl Board {
         &self.requests[request as usize]
     }
 
+    // It waits, or runs, as before.
     fn set(&mut self, request: u32, state: State)
-        requires within { request < length self.old.requests }
-        requires forward { (queued_state state ≡ false) × (canceling_state state ≡ false) }
+        requires { (q : Request) × (slice_get self.old.requests request ≡ Some q) × (queued_state state ≡ queued_state q.state) × (running_state state ≡ running_state q.state) × (canceling_state state ≡ false) }
         ensures { self.new ≡ with_state self.old request state }
     {
-        self.requests[request as usize].state = state;
+        set_state_at(&mut self.requests, request as usize, state);
+    }
+
+    // The first that waits runs from now on.
+    fn start(&mut self, request: u32)
+        requires { (marks queued_state self.old.requests request ≡ 1) × ((k : ℕ) → k < request → marks queued_state self.old.requests k ≡ 0) }
+        ensures { self.new ≡ with_state self.old request Executing }
+    {
+        let at = request as usize;
+        self.canceling_from = instead(self.canceling_from, self.running.bound(), at + 1);
+        self.waiting.remove(at);
+        self.running.push(at);
+        set_state_at(&mut self.requests, at, State::Executing);
+    }
+
+    fn withdraw(&mut self, request: u32)
+        requires { (q : Request) × (slice_get self.old.requests request ≡ Some q) × (queued_state q.state ≡ true) }
+        ensures { self.new ≡ with_state self.old request Spent }
+    {
+        let at = request as usize;
+        self.waiting.remove(at);
+        set_state_at(&mut self.requests, at, State::Spent);
     }
 
     // From now on the target is to be told that the request is to end.
     fn ask(&mut self, request: u32)
-        requires { request < length self.old.requests }
+        requires { (q : Request) × (slice_get self.old.requests request ≡ Some q) × (running_state q.state ≡ true) }
         ensures { self.new ≡ with_state self.old request Canceling }
     {
         let at = request as usize;
-        if at < self.canceling_from {
-            self.canceling_from = at;
-        }
-        self.requests[at].state = State::Canceling;
+        self.canceling_from = lesser(self.canceling_from, at);
+        set_state_at(&mut self.requests, at, State::Canceling);
     }
 
-    fn first_queued(&mut self) -> Option<u32>
-        ensures same { self.new ≡ self.old }
-        ensures value { result ≡ least is_queued self.old.requests }
-        ensures within { IfSome result (λ r. r < length self.old.requests) }
+    fn first_queued(&self) -> Option<u32>
+        ensures value { result ≡ least is_queued self.now.requests }
+        ensures first { IfSome result (λ r. (marks queued_state self.now.requests r ≡ 1) × ((k : ℕ) → k < r → marks queued_state self.now.requests k ≡ 0)) }
+        ensures within { IfSome result (λ r. r < length self.now.requests) }
     {
+        // Numbers of requests are below the limit, so they fit a `u32`.
         let _limit = self.limit;
-        match least_queued(self.requests.as_slice(), self.queued_from) {
-            Some(at) => {
-                self.queued_from = at;
-                Some(at as u32)
-            }
-            None => {
-                self.queued_from = self.requests.len();
-                None
-            }
+        match self.waiting.least() {
+            Some(at) => Some(at as u32),
+            None => None,
         }
     }
 
@@ -248,14 +273,15 @@ impl Board {
         ensures value { result ≡ least is_canceling self.old.requests }
         ensures within { IfSome result (λ r. r < length self.old.requests) }
     {
+        // As above.
         let _limit = self.limit;
-        match least_canceling(self.requests.as_slice(), self.canceling_from) {
+        match least_canceling(self.requests.as_slice(), &self.running, self.canceling_from) {
             Some(at) => {
                 self.canceling_from = at;
                 Some(at as u32)
             }
             None => {
-                self.canceling_from = self.requests.len();
+                self.canceling_from = self.running.bound();
                 None
             }
         }

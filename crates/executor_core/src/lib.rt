@@ -6,6 +6,7 @@
 mod answers;
 mod board;
 mod call;
+mod chain;
 mod entries;
 mod entry;
 mod request;

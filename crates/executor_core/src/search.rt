@@ -1,37 +1,24 @@
 //! What goes over the requests.
-ghost use Rattle.std.specs.Prelude.{◌≡◌, ◌<◌, ◌≤◌, length, map, IfSome, None, vec_capacity};
-ghost use Rattle.executor_core.specs.Acts.{NoneBelow, least, is_queued, is_canceling, shut};
+ghost use Rattle.std.specs.Prelude.{◌≡◌, ◌≢◌, ◌<◌, ◌≤◌, ◌⊎◌, ℕ, length, map, IfSome, IfNone, Some, None, vec_capacity};
+ghost use Rattle.executor_core.specs.Acts.{least, is_canceling, canceling_state, running_state, set_state, shut};
+ghost use Rattle.executor_core.specs.Chains.{Linked, marks};
+ghost use Rattle.executor_core.specs.declared.chain.Chain.{Chain};
 
-use crate::request::Request;
+use crate::chain::Chain;
+use crate::request::{Request, State};
 
-/// The least queued request, which is not below `from`.
-pub(crate) fn least_queued(all: &[Request], from: usize) -> Option<usize>
-    requires { NoneBelow is_queued all.now from }
-    ensures value { result ≡ least is_queued all.now }
-    ensures within { IfSome result (λ r. r < length all.now) }
-    ensures none { IfSome result (λ r. NoneBelow is_queued all.now r) }
-    ensures no { result ≡ None → NoneBelow is_queued all.now (length all.now) }
+/// The least request that was asked to end and isn't told yet: `from` or one of those behind it that run.
+pub(crate) fn least_canceling(all: &[Request], running: &Chain, from: usize) -> Option<usize>
+    requires { (limit : ℕ) × (waiting : Chain) × Linked limit all.now waiting running.now from }
+    ensures some { IfSome result (λ r. (least is_canceling all.now ≡ Some r) × (r < length all.now) × (marks running_state all.now r ≡ 1) × ((k : ℕ) → k < r → marks canceling_state all.now k ≡ 0)) }
+    ensures none { IfNone result ((least is_canceling all.now ≡ None) × ((k : ℕ) → marks canceling_state all.now k ≡ 0)) }
 {
-    for i in from..all.len() {
-        if all[i].is_queued() {
-            return Some(i);
+    let mut at = from;
+    while at < running.bound() {
+        if all[at].is_canceling() {
+            return Some(at);
         }
-    }
-    None
-}
-
-/// The least request that was asked to end and isn't told yet, which is not below `from`.
-pub(crate) fn least_canceling(all: &[Request], from: usize) -> Option<usize>
-    requires { NoneBelow is_canceling all.now from }
-    ensures value { result ≡ least is_canceling all.now }
-    ensures within { IfSome result (λ r. r < length all.now) }
-    ensures none { IfSome result (λ r. NoneBelow is_canceling all.now r) }
-    ensures no { result ≡ None → NoneBelow is_canceling all.now (length all.now) }
-{
-    for i in from..all.len() {
-        if all[i].is_canceling() {
-            return Some(i);
-        }
+        at = running.after(at);
     }
     None
 }
@@ -50,4 +37,27 @@ fn shut_each(all: &mut [Request])
     for q in all.iter_mut() {
         q.shut();
     }
+}
+
+/// Puts one request into another state.
+pub(crate) fn set_state_at(all: &mut Vec<Request>, at: usize, state: State)
+    requires { at < length all.old.items }
+    ensures items { all.new.items ≡ set_state all.old.items at state }
+    ensures room { vec_capacity all.new ≡ vec_capacity all.old }
+{
+    all[at].state = state;
+}
+
+/// The new number in the place of the old one.
+pub(crate) fn instead(from: usize, old: usize, new: usize) -> usize
+    ensures { ((from ≡ old) × (result ≡ new)) ⊎ ((from ≢ old) × (result ≡ from)) }
+{
+    if from == old { new } else { from }
+}
+
+/// The lesser of two numbers.
+pub(crate) fn lesser(a: usize, b: usize) -> usize
+    ensures { (result ≤ a) × (result ≤ b) × ((result ≡ a) ⊎ (result ≡ b)) }
+{
+    if b < a { b } else { a }
 }
