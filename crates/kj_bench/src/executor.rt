@@ -15,7 +15,7 @@ use xthread::{Executor, ExecutorPass};
 
 /// What each submitting thread does with a request.
 #[derive(Clone, Copy, Debug, PartialEq, Eq)]
-pub enum Way {
+pub(crate) enum Way {
     /// It waits for the outcome, while a target serves.
     RoundTrip,
     /// It withdraws the request at once, and no target serves.
@@ -24,14 +24,14 @@ pub enum Way {
 
 /// What is measured.
 #[derive(Clone, Copy, Debug, PartialEq, Eq)]
-pub struct Race {
+pub(crate) struct Race {
     pub way: Way,
     /// How many threads submit.
     pub threads: u32,
 }
 
 /// Each race with its word.
-pub static RACES: [(&str, Race); 4] = [
+pub(crate) static RACES: [(&str, Race); 4] = [
     (
         "round-trips-1",
         Race {
@@ -63,7 +63,7 @@ pub static RACES: [(&str, Race); 4] = [
 ];
 
 /// The race of a word.
-pub fn race_named(word: &str) -> Option<Race> {
+pub(crate) fn race_named(word: &str) -> Option<Race> {
     for (name, race) in RACES.iter() {
         if *name == word {
             return Some(*race);
@@ -73,7 +73,7 @@ pub fn race_named(word: &str) -> Option<Race> {
 }
 
 /// The most requests that one thread may submit.
-pub const MOST: u32 = 50_000;
+pub(crate) const MOST: u32 = 50_000;
 
 type BenchPass = ExecutorPass<Item, u64>;
 
@@ -196,7 +196,7 @@ fn submit_and_serve<W: Wait + Threads + Sync>(
 }
 
 /// Each submitting thread of the race makes so many requests, which all end.
-pub fn run_race<W: Wait + Threads + Sync>(
+pub(crate) fn run_race<W: Wait + Threads + Sync>(
     rt: &W,
     alloc: Global,
     race: Race,

@@ -1,20 +1,19 @@
 -- The log, line by line.
-use Rattle.std.proofs.Common.{◌≡◌, ℕ, zero, suc, ◌+◌, ◌<◌, ◌≤◌, get_or, arith, Result, Ok, Err, OnOk, List, [], ◌∷◌, ◌++◌, Option, None, Some, Bool, true, false, is_some, map, length, drop, refl, sym, ap, ◌∙◌, subst, append-nil}
-use Rattle.std.specs.List.{flat_map}
-use Rattle.std.proofs.lemmas.List.{append_assoc, map-append}
+use Rattle.std.proofs.Common.{◌≡◌, ℕ, zero, suc, ◌+◌, ◌<◌, ◌≤◌, get_or, arith, Result, Ok, Err, OnOk, List, [], ◌∷◌, ◌++◌, Option, None, Some, false, is_some, map, length, drop, refl, sym, ap, ◌∙◌, subst, append-nil}
+use Rattle.std.proofs.lemmas.List.{append_assoc}
 use Rattle.kj_base.specs.Record.{Item, Run, Free, Tells}
 use Rattle.kj_base.specs.Commands.{Command}
-use Rattle.kj_model.specs.World.{World, State, Setting, Asked, Ended, new_world}
+use Rattle.kj_model.specs.World.{World, State, Asked, Ended, new_world}
 use Rattle.kj_model.specs.Apply.{Refused, apply}
 use Rattle.kj_model.specs.Calls.{Turned, Fired, Idle, turn, close}
-use Rattle.kj_model.specs.Log.{log_lines, limits_or, Numbered, Line, Do, Turn, Logged, LogLine, Told as ToldLine, WasIdle, logged, told_since, asks_taken, ends_taken, gone_taken, each_ask, each_end, each_gone, all_taken, refused_line, applied_line, turned_line, log_line, log_closed, passing, scripted}
-use Rattle.kj_model.specs.Text.{log_text, line_text, item_text}
+use Rattle.kj_model.specs.Log.{log_lines, limits_or, Numbered, Do, Turn, Logged, LogLine, Told as ToldLine, WasIdle, logged, told_since, asks_taken, ends_taken, gone_taken, each_ask, each_end, each_gone, all_taken, refused_line, turned_line, log_line, log_closed, passing, scripted}
+use Rattle.kj_model.specs.Text.{log_text, line_text}
 use Rattle.kj_base.specs.declared.script.NumberedLine.{NumberedLine}
 use Rattle.kj_model.specs.Cases.{numbered_of}
 use Rattle.kj_script.specs.Items.{item_of}
 use Rattle.kj_script.specs.declared.steps.Told.{Told}
 use Rattle.kj_script.specs.declared.steps.Told.TheVariants.{Ran, Freed}
-use Rattle.loop_core.specs.Seen.{Seen, Agrees, Answer}
+use Rattle.loop_core.specs.Seen.{Seen, Agrees}
 use Rattle.kj_script.specs.Running.{plain_setting, first_log, Shows, LineDone, ClosingDone, IsOnTheWay}
 use Rattle.loop_core.specs.Quiet.{IsQuiet}
 use Rattle.loop_core.specs.Turns.{Turns, IsMissing}

@@ -1,18 +1,16 @@
 -- A text means one script.
-use Rattle.std.proofs.Common.{◌≡◌, ℕ, ◌+◌, ◌<◌, ◌≤◌, ◌^◌, lit<, lit≤, List, [], ◌∷◌, ◌==◌, Option, None, Some, Bool, true, false, cond, arith, refl, ap, sym, ◌∙◌, subst}
+use Rattle.std.proofs.Common.{◌≡◌, ℕ, ◌<◌, ◌≤◌, ◌^◌, lit<, lit≤, List, [], ◌∷◌, ◌==◌, Option, None, Some, true, arith, refl, ap, sym, ◌∙◌, subst}
 use Rattle.std.specs.Prelude.{codes, decimal}
-use Rattle.std.specs.List.{slice_split, onto_first}
+use Rattle.std.specs.List.{onto_first}
 use Rattle.std.specs.Str.Parse.{AllDigits}
 use Rattle.std.proofs.lemmas.Fmt.{decimal_is_IsNumeral}
 use Rattle.std.proofs.lemmas.Str.Parse.{digit_from_value}
 use Rattle.std.proofs.lemmas.Bool.Decides.{nat_tests}
 use Rattle.kj_base.specs.declared.numbers.StepId.{StepId}
 use Rattle.kj_base.specs.declared.numbers.Name.{Name}
-use Rattle.kj_base.specs.declared.commands.Command.{Command}
 use Rattle.kj_base.specs.declared.commands.Command.TheVariants.{Later, Then, Detach}
 use Rattle.kj_base.specs.declared.script.Line.{Line}
 use Rattle.kj_base.specs.declared.script.Line.TheVariants.{Do, Turn}
-use Rattle.kj_base.specs.declared.script.NumberedLine.{NumberedLine}
 use Rattle.kj_base.specs.declared.script.Script.{Script}
 use Rattle.kj_script.specs.ScriptText.{step_word, StepFits, line_words, LineFits, words_of, is_remark, Means, MeanAll, numbered_from, IsScriptText, lines_of}
 use Rattle.kj_base.proofs.Digits.{decimal_same}

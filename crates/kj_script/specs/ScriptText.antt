@@ -1,5 +1,5 @@
 -- The text of scripts: the lines that are built so far.
-use Rattle.std.specs.Prelude.{◌≡◌, ℕ, ◌+◌, ◌<◌, ◌^◌, ◌==◌, List, [], ◌∷◌, Option, None, Some, Bool, true, false, codes, decimal}
+use Rattle.std.specs.Prelude.{◌≡◌, ℕ, ◌+◌, ◌<◌, ◌^◌, ◌==◌, List, [], ◌∷◌, Option, None, Some, Bool, true, codes, decimal}
 use Rattle.std.specs.List.{slice_split}
 use Rattle.kj_base.specs.declared.numbers.StepId.{StepId}
 use Rattle.kj_base.specs.declared.commands.Command.{Command}

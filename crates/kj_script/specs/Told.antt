@@ -1,5 +1,5 @@
 -- What the steps of a script tell.
-use Rattle.std.specs.Prelude.{◌≡◌, ℕ, List, [], ◌++◌, Option, None, Some, Bool, true, false, map}
+use Rattle.std.specs.Prelude.{◌≡◌, ℕ, List, ◌++◌, Option, None, Some, Bool, true, false, map}
 use Rattle.kj_base.specs.Record.{Item}
 use Rattle.kj_model.specs.Log.{Told as ToldLine}
 use Rattle.kj_model.specs.Text.{log_text}

@@ -1,5 +1,5 @@
 -- An input that is no recording.
-use Rattle.std.proofs.Common.{◌≡◌, ◌⊎◌, ℕ, List, ◌≤◌, ◌<◌, length, Option, None, Some, inl, inr, ap, subst, arith}
+use Rattle.std.proofs.Common.{◌≡◌, ◌⊎◌, ℕ, List, length, Option, Some, inl, inr, ap, subst, arith}
 use Rattle.kj_io.specs.Causes.{Rose}
 use Rattle.conn_record.specs.Records.{IsRecording, IsNoRecording, IsWholeUpTo}
 use Rattle.http_core.specs.declared.message.Request.{Request}

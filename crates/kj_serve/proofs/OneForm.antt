@@ -1,6 +1,6 @@
 -- The words are those of one form at most.
 use Rattle.std.proofs.Common.{◌≡◌, ◌<◌, ◌≤◌, ◌*◌, ◌^◌, ℕ, List, [], ◌∷◌, refl, sym, ap, subst, arith, ◌∙◌}
-use Rattle.std.specs.Prelude.{codes, decimal}
+use Rattle.std.specs.Prelude.{decimal}
 use Rattle.kj_base.proofs.Digits.{decimal_same}
 use Rattle.kj_serve.specs.declared.forms.Form.{Form}
 use Rattle.kj_serve.specs.declared.forms.Form.TheVariants.{Run, Replay, Make}

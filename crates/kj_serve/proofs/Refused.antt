@@ -1,8 +1,7 @@
 -- A refused input.
-use Rattle.std.proofs.Common.{◌≡◌, ◌⊎◌, ℕ, List, [], ◌++◌, Option, None, Some, length, ◌≤◌, ◌<◌, inl, inr, refl, sym, ap, ◌∙◌, subst, arith, append-nil}
+use Rattle.std.proofs.Common.{◌≡◌, ◌⊎◌, ℕ, List, ◌++◌, Option, None, Some, inl, inr, sym, ap, ◌∙◌, subst, arith, append-nil}
 use Rattle.std.specs.Io.KnownBytes.{Consumes, IsAtEnd}
 use Rattle.kj_io.specs.Causes.{Rose}
-use Rattle.kj_base.specs.declared.script.Script.{Script}
 use Rattle.kj_script.specs.ScriptText.{IsScriptText}
 use Rattle.kj_serve.specs.Outside.{Outside, NoFault, ReadWhole, Wrote, WroteFrontOf}
 use Rattle.kj_serve.specs.Run.{RunEnds, IsNoScript, IsRefused, refusal}

@@ -1,5 +1,5 @@
 -- What a command sees of the outside.
-use Rattle.std.specs.Prelude.{◌≡◌, ℕ, ◌≤◌, List, length, take, Option}
+use Rattle.std.specs.Prelude.{◌≡◌, ℕ, ◌≤◌, List, length, Option}
 use Rattle.std.specs.Io.KnownBytes.{Appends, Consumes, IsAtEnd}
 use Rattle.kj_io.specs.Causes.{Rose}
 use Rattle.kj_io.specs.Whole.{WroteFront}

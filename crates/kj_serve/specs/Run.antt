@@ -1,5 +1,5 @@
 -- What the command `run` does.
-use Rattle.std.specs.Prelude.{◌≡◌, ◌≢◌, ◌⊎◌, ℕ, ◌<◌, ◌≤◌, ◌++◌, List, [], ◌∷◌, length, Option, Some, codes}
+use Rattle.std.specs.Prelude.{◌≡◌, ◌⊎◌, ℕ, ◌<◌, ◌≤◌, ◌++◌, List, [], ◌∷◌, length, Some, codes}
 use Rattle.std.specs.Io.KnownBytes.{Consumes}
 use Rattle.kj_io.specs.Causes.{Rose}
 use Rattle.kj_base.specs.declared.script.Script.{Script}

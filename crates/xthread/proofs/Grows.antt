@@ -23,7 +23,7 @@ use Rattle.xthread.specs.Answers.{BackTells}
 use Rattle.xthread.specs.declared.answers.Back.{Back}
 use Rattle.xthread.specs.declared.answers.Back.TheVariants.{Unstarted, Ran}
 use Rattle.xthread.specs.declared.place.Place.{Place}
-use Rattle.xthread.specs.declared.place.Place.TheVariants.{Waiting, Away, Finished}
+use Rattle.xthread.specs.declared.place.Place.TheVariants.{Waiting, Finished}
 use Rattle.xthread.specs.Stock.{Whole, Keeps, Stock, HasPayload, HasResult, IsBack, Since, Came}
 
 module _ {A : Type 0} where

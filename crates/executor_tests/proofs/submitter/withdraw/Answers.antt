@@ -1,7 +1,6 @@
-use Rattle.std.proofs.Common.{refl, eq-eqb, sym, ◌∙◌, subst, List}
+use Rattle.std.proofs.Common.{refl, eq-eqb, sym, ◌∙◌, subst}
 use Rattle.count_lock.specs.Passes.{mine}
 use Rattle.executor_core.specs.Histories.{Outstanding}
-use Rattle.executor_core.specs.Histories.{AllSpentBut}
 use Rattle.executor_core.proofs.Opens.{all_spent, still_but}
 use Rattle.executor_tests.proofs.submitter.withdraw.Goals as goal
 

@@ -1,4 +1,3 @@
-use Rattle.std.proofs.Common.{◌≡◌}
 use Rattle.count_lock.specs.Passes.{mine, IsPassOf, IsResting, IsSamePass}
 use Rattle.executor_core.specs.Histories.{AllSpent}
 use Rattle.xthread.specs.Told.{IsLegal}

@@ -1,5 +1,5 @@
 -- A number of 2 ^ 32 or more has another text than each smaller one.
-use Rattle.std.proofs.Common.{◌≡◌, ℕ, ◌<◌, ◌^◌, rules, arith, sym, ◌∙◌}
+use Rattle.std.proofs.Common.{rules, arith, sym, ◌∙◌}
 use Rattle.kj_base.proofs.Digits.{decimal_same}
 use Rattle.kj_script.proofs.fields.read_number.Goals as goal
 

@@ -1,5 +1,5 @@
 -- A text after another, each with its meaning.
-use Rattle.std.proofs.Common.{◌≡◌, ◌==◌, ℕ, ◌+◌, ◌<◌, ◌^◌, List, [], Option, Bor, map, length, get_or, arith, rules, sym, ap, ◌∙◌, subst}
+use Rattle.std.proofs.Common.{◌≡◌, ◌==◌, ℕ, ◌<◌, List, [], Bor, map, length, get_or, arith, sym, ap, ◌∙◌, subst}
 use Rattle.std.proofs.lemmas.List.{length-map}
 use Rattle.kj_script.specs.ScriptText.{lines_of, Means}
 use Rattle.kj_script.proofs.Along.{now_at}

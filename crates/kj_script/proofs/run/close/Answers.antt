@@ -1,5 +1,5 @@
 -- The closing frees what the definitions free.
-use Rattle.std.proofs.Common.{◌≡◌, List, ℕ, [], ◌++◌, Option, None, Some, map, sym, ap, subst, ◌∙◌}
+use Rattle.std.proofs.Common.{◌≡◌, List, [], ◌++◌, Option, Some, map, sym, ap, subst, ◌∙◌}
 use Rattle.kj_base.specs.Record.{Item, Tells}
 use Rattle.kj_model.specs.Log.{Told as ToldLine}
 use Rattle.kj_model.specs.Text.{log_text}

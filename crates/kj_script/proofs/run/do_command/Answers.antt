@@ -1,5 +1,5 @@
 -- What a command did is what the definitions do.
-use Rattle.std.proofs.Common.{◌≡◌, List, ℕ, [], ◌∷◌, ◌++◌, None, Some, false, sym, ap, ◌∙◌, append-nil}
+use Rattle.std.proofs.Common.{[], ◌∷◌, None, Some, false, sym, ◌∙◌, append-nil}
 use Rattle.kj_base.specs.Commands.{command_of}
 use Rattle.kj_model.specs.Cases.{refused_of}
 use Rattle.kj_model.specs.Log.{scripted, RefusedAt}

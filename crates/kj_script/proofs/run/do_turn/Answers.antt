@@ -1,5 +1,5 @@
 -- What a turn did is what the definitions do.
-use Rattle.std.proofs.Common.{◌≡◌, List, ℕ, [], ◌∷◌, ◌++◌, Option, None, Some, false, sym, ap, subst, ◌∙◌, append-nil}
+use Rattle.std.proofs.Common.{List, [], ◌∷◌, Option, Some, subst, ◌∙◌}
 use Rattle.std.specs.Prelude.{codes}
 use Rattle.kj_base.specs.Record.{Item}
 use Rattle.loop_core.specs.Turns.{Turns}

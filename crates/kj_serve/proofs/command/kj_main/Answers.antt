@@ -1,5 +1,5 @@
 -- The form that was found is the form of the words.
-use Rattle.std.proofs.Common.{◌≡◌, ◌⊎◌, inl, inr, refl, subst, rules}
+use Rattle.std.proofs.Common.{◌≡◌, ◌⊎◌, inl, inr, refl, subst}
 use Rattle.kj_serve.specs.declared.forms.Form.{Form}
 use Rattle.kj_serve.specs.declared.forms.Form.TheVariants.{Make}
 use Rattle.kj_serve.specs.Outside.{Outside, NoFault}

@@ -1,5 +1,5 @@
 -- All octets, and then the end.
-use Rattle.std.proofs.Common.{◌≡◌, ℕ, List, [], ◌++◌, sym, ap, subst}
+use Rattle.std.proofs.Common.{◌≡◌, ℕ, List, [], sym, ap, subst}
 use Rattle.std.specs.Prelude.{IfSome}
 use Rattle.http_core.specs.declared.connection.State.{State}
 use Rattle.http_core.specs.declared.connection.State.TheVariants.{Going, Drained}

@@ -1,5 +1,5 @@
 -- An input that is no script.
-use Rattle.std.proofs.Common.{Err, ap, subst}
+use Rattle.std.proofs.Common.{subst}
 use Rattle.kj_serve.specs.Run.{IsNoScript}
 use Rattle.kj_serve.proofs.Refused.{refused_ends}
 use Rattle.kj_serve.proofs.run.run_command.Goals as goal
