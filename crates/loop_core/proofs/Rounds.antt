@@ -1,5 +1,5 @@
 -- Turns.
-use Rattle.std.proofs.Common.{◌≡◌, ℕ, ◌<◌, ◌≤◌, List, [], ◌∷◌, ◌++◌, Option, None, Some, Bool, true, false, refl, sym, ap, ◌∙◌, subst, arith, length, vec_capacity}
+use Rattle.std.proofs.Common.{◌≡◌, ℕ, ◌+◌, ◌<◌, ◌≤◌, List, [], ◌∷◌, ◌++◌, Option, None, Some, Bool, true, false, refl, sym, ap, ◌∙◌, subst, arith, length, vec_capacity}
 use Rattle.std.specs.Prelude.{nat_lt, remove, if◌then◌else◌, ◌==◌, option_map}
 use Rattle.std.proofs.lemmas.List.{append-nil}
 use Rattle.std.proofs.lemmas.Bool.Decides.{nat_tests}
@@ -102,6 +102,29 @@ pub event_fires : (n : ℕ) (w v : World) (x y : Option (List Item)) (lacked : B
 event_fires n w v x y lacked d =
     let r = does_within (with_firing (Some n)) (with_firing None) (λ setting s. fire_form setting n (form_at n s.world.nodes) s) w v x y lacked (λ u. refl) (λ u. refl) d in
     record { items = r.items; missing = r.missing; lacks = r.lacks; told = r.told; same = r.same }
+
+-- what is kept where only the ways down a tree differ
+pub ways_kept : (old new : Engine) → IsKept old → new ≡ record old { path = new.path; frames = new.frames } → old.limits.slots + 1 ≤ vec_capacity new.path → old.limits.slots + 1 ≤ vec_capacity new.frames → IsKept new
+ways_kept old new k same path frames = subst IsKept (sym same) (record {
+  room = record {
+    slots = k.room.slots;
+    names = k.room.names;
+    of_events = k.room.of_events;
+    of_nodes = k.room.of_nodes;
+    of_names = k.room.of_names;
+    of_path = path;
+    of_frames = frames;
+  };
+  few_nodes = k.few_nodes;
+  few_names = k.few_names;
+  next = k.next;
+  queue = k.queue;
+  live = k.live;
+  rising = k.rising;
+  built = k.built;
+  trees = k.trees;
+  roots = k.roots;
+})
 
 -- another queue is kept
 pub order_kept : (old : Engine) (o : Order) → IsKept old → old.limits.slots ≤ vec_capacity o.events → IsQueue (events_of o) → AreLive o.events.items old.nodes.items → IsKept (record old { order = o })

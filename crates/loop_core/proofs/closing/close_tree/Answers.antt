@@ -1,5 +1,6 @@
 use Rattle.std.proofs.Common.{arith, refl, ap, ◌∙◌, ◌+◌}
 use Rattle.loop_core.specs.Walks.{tree_path}
+use Rattle.loop_core.proofs.Rounds.{ways_kept}
 use Rattle.loop_core.proofs.Paths.{closes_on, closes_room, closes_from}
 use Rattle.loop_core.proofs.closing.close_tree.Goals as goal
 
@@ -7,29 +8,9 @@ pub falling-init : goal.falling-init
 falling-init g c =
     let old = c.args.engine.now in
     let kept = c.requires.kept in
-    let room = kept.room in
     record {
       closes = closes_from (old.limits.slots + 1) c.args.root old (record old { path = c.go_down.new.path }) c.args.freed.now.items _ kept
-          (record {
-            room = record {
-              slots = room.slots;
-              names = room.names;
-              of_events = room.of_events;
-              of_nodes = room.of_nodes;
-              of_names = room.of_names;
-              of_path = omega (arith, c.go_down.ensures.capacity, room.of_path);
-              of_frames = room.of_frames;
-            };
-            few_nodes = kept.few_nodes;
-            few_names = kept.few_names;
-            next = kept.next;
-            queue = kept.queue;
-            live = kept.live;
-            rising = kept.rising;
-            built = kept.built;
-            trees = kept.trees;
-            roots = kept.roots;
-          })
+          (ways_kept old (record old { path = c.go_down.new.path }) kept refl (omega (arith, c.go_down.ensures.capacity, kept.room.of_path)) kept.room.of_frames)
           refl
           (c.go_down.ensures.path ∙ ap (λ k. tree_path k c.args.root old.nodes.items) c.depth-depth.ensures)
           c.requires.few;

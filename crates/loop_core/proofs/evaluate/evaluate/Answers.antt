@@ -5,6 +5,7 @@ use Rattle.loop_core.specs.Walks.{frames_found}
 use Rattle.loop_core.specs.Engine.{world_of}
 use Rattle.loop_core.specs.Gives.{FrameFits, FramesFit}
 use Rattle.loop_core.proofs.Alls.{all_front, all_back, nil_of}
+use Rattle.loop_core.proofs.Rounds.{ways_kept}
 use Rattle.loop_core.proofs.Rises.{rising_from, rising_to, rising_stops, rising_over, frames_fit, frames_stay}
 use Rattle.loop_core.proofs.evaluate.evaluate.Goals as goal
 
@@ -12,29 +13,9 @@ pub rising-init : goal.rising-init
 rising-init g c =
     let old = c.args.engine.now in
     let kept = c.requires.kept in
-    let room = kept.room in
     let frames = c.open_frames.ensures.frames ∙ ap (λ k. frames_found k c.args.root old.nodes.items) c.depth-depth.ensures in
     record {
-      kept = record {
-        room = record {
-          slots = room.slots;
-          names = room.names;
-          of_events = room.of_events;
-          of_nodes = room.of_nodes;
-          of_names = room.of_names;
-          of_path = room.of_path;
-          of_frames = omega (arith, c.open_frames.ensures.capacity, room.of_frames);
-        };
-        few_nodes = kept.few_nodes;
-        few_names = kept.few_names;
-        next = kept.next;
-        queue = kept.queue;
-        live = kept.live;
-        rising = kept.rising;
-        built = kept.built;
-        trees = kept.trees;
-        roots = kept.roots;
-      };
+      kept = ways_kept old (record old { frames = c.open_frames.new.frames }) kept refl kept.room.of_path (omega (arith, c.open_frames.ensures.capacity, kept.room.of_frames));
       running = c.requires.running;
       others = refl;
       roots = λ root h. h;
