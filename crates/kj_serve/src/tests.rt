@@ -75,70 +75,73 @@ fn failing(alloc: Global, passing: usize, most: usize) -> Result<Vec<Turn>, NoMe
     Ok(turns)
 }
 
+const REFUSAL: &[u8] = b"not built\n";
+
+/// Octets, the status of `run` on them, and what it writes.
+const SCRIPTS: [(&[u8], u8, &[u8]); 24] = [
+    (b"", 0, b""),
+    (
+        b"later 1\nthen 2 1 10 -\ndetach 2\nturn\n",
+        0,
+        b"free 1\nrun 2 10 value\nfree 2\nfree 3\n",
+    ),
+    (TWO, 0, TWO_LOG),
+    (
+        b"later 1\nlater 1\nthen 3 2 - -\nturn\n",
+        0,
+        b"refused 2 taken 1\nrefused 3 unknown 2\nidle\nfree 1\n",
+    ),
+    (b"pair 1 2", 9, REFUSAL),
+    // The last line may end with the input.
+    (b"later 1\nturn", 0, b"idle\nfree 1\n"),
+    // Lines that mean nothing are counted.
+    (
+        b"\n# any octet \xff\x00\r in a remark\n\ndetach 1\n",
+        0,
+        b"refused 4 unknown 1\n",
+    ),
+    // A continuation without a step for its outcome passes it on.
+    (
+        b"later 1\nthen 2 1 - 5\nthen 3 2 6 -\ndetach 3\nturn\n",
+        0,
+        b"free 1\nfree 2\nrun 3 6 value\nfree 3\nfree 4\n",
+    ),
+    // A name is free again once it was a source.
+    (
+        b"later 1\nthen 2 1 - -\nlater 1\ndetach 2\ndetach 1\nturn\nturn\nturn\n",
+        0,
+        b"free 1\nfree 2\nfree 4\nfree 3\nfree 5\nidle\n",
+    ),
+    // What is still there at the end is freed: names by rising name, then tasks, the newest first.
+    (
+        b"later 9\nlater 4\nlater 1\nlater 2\ndetach 1\ndetach 2\n",
+        0,
+        b"free 2\nfree 1\nfree 4\nfree 6\nfree 3\nfree 5\n",
+    ),
+    (b"then 1 1 - -\n", 0, b"refused 1 unknown 1\n"),
+    (
+        b"later 4294967295\ndetach 4294967295\n",
+        0,
+        b"free 1\nfree 2\n",
+    ),
+    (b"later 4294967296\n", 9, REFUSAL),
+    (b"later 01\n", 9, REFUSAL),
+    (b"later -1\n", 9, REFUSAL),
+    (b"later +1\n", 9, REFUSAL),
+    (b"later  1\n", 9, REFUSAL),
+    (b"later 1 \n", 9, REFUSAL),
+    (b" later 1\n", 9, REFUSAL),
+    (b"later 1\r\n", 9, REFUSAL),
+    (b"later\n", 9, REFUSAL),
+    (b"then 2 1 10\n", 9, REFUSAL),
+    (b"turn 1\n", 9, REFUSAL),
+    (b"Turn\n", 9, REFUSAL),
+];
+
 #[test]
 fn scripts_and_their_logs(rt: HostRuntime) -> Result<(), Fail> {
     let alloc = rt.alloc();
-    let refusal = b"not built\n".as_slice();
-    let cases: [(&[u8], u8, &[u8]); 24] = [
-        (b"", 0, b""),
-        (
-            b"later 1\nthen 2 1 10 -\ndetach 2\nturn\n",
-            0,
-            b"free 1\nrun 2 10 value\nfree 2\nfree 3\n",
-        ),
-        (TWO, 0, TWO_LOG),
-        (
-            b"later 1\nlater 1\nthen 3 2 - -\nturn\n",
-            0,
-            b"refused 2 taken 1\nrefused 3 unknown 2\nidle\nfree 1\n",
-        ),
-        (b"pair 1 2", 9, refusal),
-        // The last line may end with the input.
-        (b"later 1\nturn", 0, b"idle\nfree 1\n"),
-        // Lines that mean nothing are counted.
-        (
-            b"\n# any octet \xff\x00\r in a remark\n\ndetach 1\n",
-            0,
-            b"refused 4 unknown 1\n",
-        ),
-        // A continuation without a step for its outcome passes it on.
-        (
-            b"later 1\nthen 2 1 - 5\nthen 3 2 6 -\ndetach 3\nturn\n",
-            0,
-            b"free 1\nfree 2\nrun 3 6 value\nfree 3\nfree 4\n",
-        ),
-        // A name is free again once it was a source.
-        (
-            b"later 1\nthen 2 1 - -\nlater 1\ndetach 2\ndetach 1\nturn\nturn\nturn\n",
-            0,
-            b"free 1\nfree 2\nfree 4\nfree 3\nfree 5\nidle\n",
-        ),
-        // What is still there at the end is freed: names by rising name, then tasks, the newest first.
-        (
-            b"later 9\nlater 4\nlater 1\nlater 2\ndetach 1\ndetach 2\n",
-            0,
-            b"free 2\nfree 1\nfree 4\nfree 6\nfree 3\nfree 5\n",
-        ),
-        (b"then 1 1 - -\n", 0, b"refused 1 unknown 1\n"),
-        (
-            b"later 4294967295\ndetach 4294967295\n",
-            0,
-            b"free 1\nfree 2\n",
-        ),
-        (b"later 4294967296\n", 9, refusal),
-        (b"later 01\n", 9, refusal),
-        (b"later -1\n", 9, refusal),
-        (b"later +1\n", 9, refusal),
-        (b"later  1\n", 9, refusal),
-        (b"later 1 \n", 9, refusal),
-        (b" later 1\n", 9, refusal),
-        (b"later 1\r\n", 9, refusal),
-        (b"later\n", 9, refusal),
-        (b"then 2 1 10\n", 9, refusal),
-        (b"turn 1\n", 9, refusal),
-        (b"Turn\n", 9, refusal),
-    ];
-    for (octets, status, text) in cases {
+    for (octets, status, text) in SCRIPTS {
         let ended = ran(&rt, alloc, octets, Vec::new(alloc), Vec::new(alloc))?;
         assert!(&rt; ended.is(status, text), "at {}", octets.len());
     }
@@ -174,6 +177,42 @@ fn other_words(rt: HostRuntime) -> Result<(), Fail> {
     Ok(())
 }
 
+/// What `make 1 1 1` writes.
+const RECORDING: &[u8] = b"kjrec 1\nconn 36\nGET /0/0 HTTP/1.1\r\nHost: kj.test\r\n\r\n\n";
+
+/// A service, the octets of a recording, the status of `replay` on them, and what it writes.
+const RECORDINGS: [(&str, &[u8], u8, &[u8]); 9] = [
+    (
+        "target",
+        RECORDING,
+        0,
+        b"kjrep 1\nconn 46\nHTTP/1.1 200 OK\r\nContent-Length: 8\r\n\r\nGET /0/0\n",
+    ),
+    ("echo", b"kjrec 1\n", 0, b"kjrep 1\n"),
+    ("echo", b"kjrec 1\nconn 0\n\n", 0, b"kjrep 1\nconn 0\n\n"),
+    ("echo", b"kjrec 1\nconn 36\nGET", 1, b"bad record 0\n"),
+    ("echo", b"kjrec 1\nconn 0\n\ncon", 1, b"bad record 1\n"),
+    ("echo", b"", 1, b"bad record 0\n"),
+    (
+        "target",
+        b"kjrec 1\nconn 18\nGET / HTTP/1.1\r\n\r\n\n",
+        0,
+        b"kjrep 1\nconn 66\nHTTP/1.1 400 Bad Request\r\nContent-Length: 0\r\nConnection: close\r\n\r\n\n",
+    ),
+    (
+        "echo",
+        b"kjrec 1\nconn 18\nGET / HTTP/1.0\r\n\r\n\n",
+        0,
+        b"kjrep 1\nconn 57\nHTTP/1.1 200 OK\r\nContent-Length: 0\r\nConnection: close\r\n\r\n\n",
+    ),
+    (
+        "target",
+        b"kjrec 1\nconn 2\n\r\n\n",
+        0,
+        b"kjrep 1\nconn 0\n\n",
+    ),
+];
+
 /// Recordings, and the replies to their connections.
 #[test]
 fn made_and_replayed(rt: HostRuntime) -> Result<(), Fail> {
@@ -186,40 +225,8 @@ fn made_and_replayed(rt: HostRuntime) -> Result<(), Fail> {
         Vec::new(alloc),
         Vec::new(alloc),
     )?;
-    let recording = b"kjrec 1\nconn 36\nGET /0/0 HTTP/1.1\r\nHost: kj.test\r\n\r\n\n".as_slice();
-    assert!(&rt; made.is(0, recording));
-    let cases: [(&str, &[u8], u8, &[u8]); 9] = [
-        (
-            "target",
-            recording,
-            0,
-            b"kjrep 1\nconn 46\nHTTP/1.1 200 OK\r\nContent-Length: 8\r\n\r\nGET /0/0\n",
-        ),
-        ("echo", b"kjrec 1\n", 0, b"kjrep 1\n"),
-        ("echo", b"kjrec 1\nconn 0\n\n", 0, b"kjrep 1\nconn 0\n\n"),
-        ("echo", b"kjrec 1\nconn 36\nGET", 1, b"bad record 0\n"),
-        ("echo", b"kjrec 1\nconn 0\n\ncon", 1, b"bad record 1\n"),
-        ("echo", b"", 1, b"bad record 0\n"),
-        (
-            "target",
-            b"kjrec 1\nconn 18\nGET / HTTP/1.1\r\n\r\n\n",
-            0,
-            b"kjrep 1\nconn 66\nHTTP/1.1 400 Bad Request\r\nContent-Length: 0\r\nConnection: close\r\n\r\n\n",
-        ),
-        (
-            "echo",
-            b"kjrec 1\nconn 18\nGET / HTTP/1.0\r\n\r\n\n",
-            0,
-            b"kjrep 1\nconn 57\nHTTP/1.1 200 OK\r\nContent-Length: 0\r\nConnection: close\r\n\r\n\n",
-        ),
-        (
-            "target",
-            b"kjrec 1\nconn 2\n\r\n\n",
-            0,
-            b"kjrep 1\nconn 0\n\n",
-        ),
-    ];
-    for (service, octets, status, text) in cases {
+    assert!(&rt; made.is(0, RECORDING));
+    for (service, octets, status, text) in RECORDINGS {
         let ended = done(
             &rt,
             alloc,
@@ -238,7 +245,7 @@ fn made_and_replayed(rt: HostRuntime) -> Result<(), Fail> {
         &rt,
         alloc,
         &["replay", "1", "target"],
-        recording,
+        RECORDING,
         Vec::new(alloc),
         failing(alloc, 1, 20)?,
     )?;
@@ -257,66 +264,68 @@ fn one_connection(alloc: Global, header: &[u8], octets: &[u8]) -> Result<Bytes, 
     Ok(text)
 }
 
+/// A service, the octets of a connection, and what is written to it.
+const CONNECTIONS: [(&str, &[u8], &[u8]); 13] = [
+    (
+        "target",
+        b"GET /a HTTP/1.1\r\nHost: h\r\n\r\nHEAD /a HTTP/1.1\r\nHost: h\r\n\r\nPOST /b HTTP/1.1\r\nHost: h\r\nContent-Length: 3\r\n\r\nabc",
+        b"HTTP/1.1 200 OK\r\nContent-Length: 6\r\n\r\nGET /aHTTP/1.1 200 OK\r\nContent-Length: 7\r\n\r\nHTTP/1.1 200 OK\r\nContent-Length: 7\r\n\r\nPOST /b",
+    ),
+    (
+        "echo",
+        b"POST / HTTP/1.1\r\nHost: a\r\nTransfer-Encoding: chunked\r\n\r\n3;x=1\r\nabc\r\n0\r\nT: 1\r\n\r\nGET / HTTP/1.1\r\nHost: a\r\n\r\n",
+        b"HTTP/1.1 200 OK\r\nContent-Length: 3\r\n\r\nabcHTTP/1.1 200 OK\r\nContent-Length: 0\r\n\r\n",
+    ),
+    (
+        "echo",
+        b"POST / HTTP/1.1\r\nHost: a\r\nContent-Length: 3\r\nTransfer-Encoding: chunked\r\n\r\n3;x=1\r\nabc\r\n0\r\nT: 1\r\n\r\nGET / HTTP/1.1\r\nHost: a\r\n\r\n",
+        FAULT,
+    ),
+    ("echo", b"GET / HTTP/1.1\r\n\r\n", FAULT),
+    (
+        "echo",
+        b"\r\nGET / HTTP/1.0\r\n\r\n",
+        b"HTTP/1.1 200 OK\r\nContent-Length: 0\r\nConnection: close\r\n\r\n",
+    ),
+    ("echo", b"\r\n", b""),
+    ("echo", b"GET / HTTP/1.1\r\nHost: a\r\n", FAULT),
+    (
+        "echo",
+        b"POST / HTTP/1.1\r\nHost: a\r\nContent-Length: 5\r\n\r\nab",
+        FAULT,
+    ),
+    (
+        "target",
+        b"GET /x HTTP/1.1\r\nHost: localhost:8080\r\nUser-Agent: curl/8.0\r\nAccept: */*\r\n\r\n",
+        b"HTTP/1.1 200 OK\r\nContent-Length: 6\r\n\r\nGET /x",
+    ),
+    (
+        "echo",
+        b"POST / HTTP/1.1\r\nHost: a\r\nTransfer-Encoding: gzip, chunked\r\n\r\n",
+        b"HTTP/1.1 501 Not Implemented\r\nContent-Length: 0\r\nConnection: close\r\n\r\n",
+    ),
+    (
+        "target",
+        b"GET /0/0 HTTP/1.1\r\nHost: kj.test\r\n\r\n",
+        b"HTTP/1.1 200 OK\r\nContent-Length: 8\r\n\r\nGET /0/0",
+    ),
+    (
+        "target",
+        b"GET /chunk HTTP/1.1\r\nHost: a\r\n\r\n",
+        b"HTTP/1.1 200 OK\r\nTransfer-Encoding: chunked\r\n\r\na\r\nGET /chunk\r\n0\r\n\r\n",
+    ),
+    (
+        "target",
+        b"GET /empty HTTP/1.1\r\nHost: a\r\n\r\n",
+        b"HTTP/1.1 204 No Content\r\n\r\n",
+    ),
+];
+
 /// Recordings of one connection with its replies, read in two pieces that are cut at each place.
 #[test]
 fn cut_recordings(rt: HostRuntime) -> Result<(), Fail> {
     let alloc = rt.alloc();
-    let cases: [(&str, &[u8], &[u8]); 13] = [
-        (
-            "target",
-            b"GET /a HTTP/1.1\r\nHost: h\r\n\r\nHEAD /a HTTP/1.1\r\nHost: h\r\n\r\nPOST /b HTTP/1.1\r\nHost: h\r\nContent-Length: 3\r\n\r\nabc",
-            b"HTTP/1.1 200 OK\r\nContent-Length: 6\r\n\r\nGET /aHTTP/1.1 200 OK\r\nContent-Length: 7\r\n\r\nHTTP/1.1 200 OK\r\nContent-Length: 7\r\n\r\nPOST /b",
-        ),
-        (
-            "echo",
-            b"POST / HTTP/1.1\r\nHost: a\r\nTransfer-Encoding: chunked\r\n\r\n3;x=1\r\nabc\r\n0\r\nT: 1\r\n\r\nGET / HTTP/1.1\r\nHost: a\r\n\r\n",
-            b"HTTP/1.1 200 OK\r\nContent-Length: 3\r\n\r\nabcHTTP/1.1 200 OK\r\nContent-Length: 0\r\n\r\n",
-        ),
-        (
-            "echo",
-            b"POST / HTTP/1.1\r\nHost: a\r\nContent-Length: 3\r\nTransfer-Encoding: chunked\r\n\r\n3;x=1\r\nabc\r\n0\r\nT: 1\r\n\r\nGET / HTTP/1.1\r\nHost: a\r\n\r\n",
-            FAULT,
-        ),
-        ("echo", b"GET / HTTP/1.1\r\n\r\n", FAULT),
-        (
-            "echo",
-            b"\r\nGET / HTTP/1.0\r\n\r\n",
-            b"HTTP/1.1 200 OK\r\nContent-Length: 0\r\nConnection: close\r\n\r\n",
-        ),
-        ("echo", b"\r\n", b""),
-        ("echo", b"GET / HTTP/1.1\r\nHost: a\r\n", FAULT),
-        (
-            "echo",
-            b"POST / HTTP/1.1\r\nHost: a\r\nContent-Length: 5\r\n\r\nab",
-            FAULT,
-        ),
-        (
-            "target",
-            b"GET /x HTTP/1.1\r\nHost: localhost:8080\r\nUser-Agent: curl/8.0\r\nAccept: */*\r\n\r\n",
-            b"HTTP/1.1 200 OK\r\nContent-Length: 6\r\n\r\nGET /x",
-        ),
-        (
-            "echo",
-            b"POST / HTTP/1.1\r\nHost: a\r\nTransfer-Encoding: gzip, chunked\r\n\r\n",
-            b"HTTP/1.1 501 Not Implemented\r\nContent-Length: 0\r\nConnection: close\r\n\r\n",
-        ),
-        (
-            "target",
-            b"GET /0/0 HTTP/1.1\r\nHost: kj.test\r\n\r\n",
-            b"HTTP/1.1 200 OK\r\nContent-Length: 8\r\n\r\nGET /0/0",
-        ),
-        (
-            "target",
-            b"GET /chunk HTTP/1.1\r\nHost: a\r\n\r\n",
-            b"HTTP/1.1 200 OK\r\nTransfer-Encoding: chunked\r\n\r\na\r\nGET /chunk\r\n0\r\n\r\n",
-        ),
-        (
-            "target",
-            b"GET /empty HTTP/1.1\r\nHost: a\r\n\r\n",
-            b"HTTP/1.1 204 No Content\r\n\r\n",
-        ),
-    ];
-    for (service, octets, replies) in cases {
+    for (service, octets, replies) in CONNECTIONS {
         let input = one_connection(alloc, b"kjrec 1\n", octets)?;
         let output = one_connection(alloc, b"kjrep 1\n", replies)?;
         for place in 1..input.len() {
