@@ -5,7 +5,7 @@ use Rattle.std.proofs.lemmas.List.{length-map}
 use Rattle.std.proofs.lemmas.Option.{slice_get-map, slice_get_within}
 use mathlib.Core.Logic.{dite}
 use native.Mathlib.Decide.{ℕ_discrete}
-use Rattle.std.specs.Prelude.{slice_get, slice_set}
+use Rattle.std.specs.Prelude.{slice_get, slice_set, min}
 use Rattle.std.specs.Option.{option_map}
 use Rattle.executor_core.specs.declared.chain.Chain.{Chain}
 use Rattle.executor_core.specs.declared.request.State.{State}
@@ -15,6 +15,14 @@ use Rattle.executor_core.specs.Acts.{is_queued, queued_state, canceling_state, r
 use Rattle.executor_core.specs.Chains.{Marks, IsChain, IsAfter, Without, With, bit, marks, Linked}
 use Rattle.executor_core.proofs.Chains.{same_chain}
 use Rattle.executor_core.proofs.Steps.{at_state, get_snoc, past}
+
+-- the lesser of two numbers is one of them
+pub lesser_is : (a b : ℕ) → (min a b ≡ a) ⊎ (min a b ≡ b)
+lesser_is a b = by_test (cases_lt a b)
+  where
+    by_test : (a < b) ⊎ (b ≤ a) → (min a b ≡ a) ⊎ (min a b ≡ b)
+    by_test (inl less) = inl (omega (arith, less))
+    by_test (inr more) = inr (omega (arith, more))
 
 abbrev pub mark : Bool → ℕ
 mark b = cond b 1 0

@@ -9,7 +9,7 @@ use crate::answers::{Cancelling, Chosen, NotTaken};
 use crate::call::{Call, Reply};
 use crate::chain::Chain;
 use crate::request::{Request, State};
-use crate::search::{instead, least_canceling, lesser, set_state_at, shut_all};
+use crate::search::{instead, least_canceling, set_state_at, shut_all};
 use kj_base::{NoMemory, Outcome, StepId, Words};
 use std::alloc::Global;
 use std::marker::Model;
@@ -251,7 +251,7 @@ impl Board {
         ensures { self.new ≡ with_state self.old request Canceling }
     {
         let at = request as usize;
-        self.canceling_from = lesser(self.canceling_from, at);
+        self.canceling_from = self.canceling_from.min(at);
         set_state_at(&mut self.requests, at, State::Canceling);
     }
 

@@ -1,5 +1,5 @@
 //! What goes over the requests.
-ghost use Rattle.std.specs.Prelude.{◌≡◌, ◌≢◌, ◌<◌, ◌≤◌, ◌⊎◌, ℕ, length, map, IfSome, IfNone, Some, None, vec_capacity};
+ghost use Rattle.std.specs.Prelude.{◌≡◌, ◌≢◌, ◌<◌, ◌⊎◌, ℕ, length, map, IfSome, IfNone, Some, None, vec_capacity};
 ghost use Rattle.executor_core.specs.Acts.{least, is_canceling, canceling_state, running_state, set_state, shut};
 ghost use Rattle.executor_core.specs.Chains.{Linked, marks};
 ghost use Rattle.executor_core.specs.declared.chain.Chain.{Chain};
@@ -53,11 +53,4 @@ pub(crate) fn instead(from: usize, old: usize, new: usize) -> usize
     ensures { ((from ≡ old) × (result ≡ new)) ⊎ ((from ≢ old) × (result ≡ from)) }
 {
     if from == old { new } else { from }
-}
-
-/// The lesser of two numbers.
-pub(crate) fn lesser(a: usize, b: usize) -> usize
-    ensures { (result ≤ a) × (result ≤ b) × ((result ≡ a) ⊎ (result ≡ b)) }
-{
-    if b < a { b } else { a }
 }
