@@ -3,3 +3,4 @@ pub mod Places
 pub mod Queue
 pub mod Record
 pub mod Store
+pub mod Counts

@@ -4,6 +4,7 @@
 mod actions;
 mod bytes;
 mod commands;
+mod limits;
 mod memory;
 mod nodes;
 mod numbers;
@@ -20,8 +21,9 @@ mod words;
 pub use actions::{Action, Commands, Ending};
 pub use bytes::Bytes;
 pub use commands::Command;
+pub use limits::{INPUT_LIMIT, MAX_NAMES, MAX_SLOTS, NAMES, SLOTS};
 pub use memory::NoMemory;
-pub use nodes::{Form, Link, Node, Row, Slot};
+pub use nodes::{Content, Form, Link, Node, Row, Slot, Stage};
 pub use numbers::{Limits, Name, NodeId, StepId};
 pub use numerals::{is_word, read_decimal};
 pub use outcomes::{Exception, Kind, Outcome};

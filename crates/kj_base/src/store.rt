@@ -1,5 +1,5 @@
 //! The keeper of nodes.
-ghost use Rattle.std.specs.Prelude.{◌≡◌, ◌≢◌, ◌<◌, ℕ, Bool, true, false, List, [], ◌∷◌, ◌++◌, Option, None, Some, IsSome, IsTrue, map};
+ghost use Rattle.std.specs.Prelude.{◌≡◌, ◌≢◌, ◌<◌, ◌≤◌, ℕ, Bool, true, false, List, [], ◌∷◌, ◌++◌, Option, None, Some, IsSome, IsTrue, map, length};
 ghost use Rattle.kj_base.specs.Places.{Spot, Row as RowSeen, row, spot_placed, spots_without, IsOneToOne, spot_as, row_as};
 ghost use Rattle.kj_base.specs.Store.{slot_number, rows_of, IsBareOrNone, IsCovered, StandsBefore, rows_after, KeepsOthers, HasLower, KeepsLive, is_named, AreBelow};
 ghost use Rattle.kj_base.specs.declared.nodes.Node.{Node};
@@ -87,6 +87,9 @@ pub trait Store {
 
     /// A bare slot is live.
     ghost bare_live: { (store : Self) (slot : ℕ) → is_bare store slot ≡ true → IsSome (node_at store slot) };
+
+    /// There are no more live slots than slots.
+    ghost few: { (store : Self) (spots : List Spot) → stands store spots → length spots ≤ slots store };
 
     /// Rows may be left out.
     ghost left_out: { (store : Self) (front : List RowSeen) (left : RowSeen) (back : List RowSeen) → IsTrue (room store (front ++ left ∷ back)) → IsTrue (room store (front ++ back)) };

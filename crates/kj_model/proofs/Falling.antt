@@ -12,6 +12,8 @@ use Rattle.kj_model.specs.Changes.{silent, gone, gone_world}
 use Rattle.kj_model.specs.Free.{Guard, Holding, Every, is_guarded, free_unless, free_to, free_form, each_freed, unlinked, free_unreferenced, without_branch, without_branch_in, without_wrap_in, abandoned_as, ask_of}
 use Rattle.kj_model.specs.Trees.{some_parts, none_if, Frees}
 use Rattle.kj_model.specs.Falling.{is_branch_of, branches_staying, form_staying, some_staying, form_then, without_all, unless_kept, hub_falling, reference_falling, each_falling, form_falling, falling}
+use Rattle.kj_model.specs.Framed.{Framed, FreedBy}
+use Rattle.kj_model.proofs.Counts.{framed_none, framed_gone, framed_branch, framed_abandoned, framed_wrap}
 use Rattle.kj_model.proofs.Freed.{in_app, none_none, none_twice, or_none}
 use Rattle.kj_model.proofs.Spared.{no_form, same_number, form_without_same, form_without_other, form_put_same, form_put_other}
 
@@ -19,6 +21,7 @@ use Rattle.kj_model.proofs.Spared.{no_form, same_number, form_without_same, form
 record Stands (w : World) (way done : List ℕ) (v : World) : Type 0 where
   limits : v.limits ≡ w.limits
   forms : (m : ℕ) → form_at m v.nodes ≡ form_then way done m w.nodes
+  frame : Framed w done v
 
 -- these nodes went, in this order
 record Fell (w : World) (way done ns : List ℕ) (old new : State) : Type 0 where
@@ -61,7 +64,7 @@ staying_all n nodes (Some form) = ap Some (form_all n nodes form)
     form_all n nodes _ = refl
 
 starts : (w : World) → Stands w [] [] w
-starts w = record { limits = refl; forms = λ m. sym (staying_all m w.nodes (form_at m w.nodes)) }
+starts w = record { limits = refl; forms = λ m. sym (staying_all m w.nodes (form_at m w.nodes)); frame = framed_none w }
 
 -- what stays owns what it owned, and has the same references
 parts_staying : (out : ℕ → Bool) (n : ℕ) (nodes : List Entry) (form : Form) → parts_of (form_staying out n nodes form) ≡ parts_of form
@@ -96,6 +99,7 @@ passed false false false = refl
 gone_stands : (w : World) (way done : List ℕ) (n : ℕ) (v : World) → Stands w (n ∷ way) done v → Stands w way (done ++ n ∷ []) (gone_world n v)
 gone_stands w way done n v st = record {
   limits = st.limits;
+  frame = framed_gone w done n v st.frame;
   forms = λ m.
       form_without_if (n == m) n m v.nodes refl
       ∙ ap (none_if (n == m)) (st.forms m)
@@ -117,7 +121,7 @@ way_same w way done n m other = ap (none_if (is_in m done)) (staying_same (λ b.
     each true false false false h = refl
 
 away_stands : (w : World) (way done : List ℕ) (n : ℕ) (v : World) → ((m : ℕ) → is_branch_of m (form_at n w.nodes) ≡ false) → Stands w way done v → Stands w (n ∷ way) done v
-away_stands w way done n v other st = record { limits = st.limits; forms = λ m. st.forms m ∙ way_same w way done n m (other m) }
+away_stands w way done n v other st = record { limits = st.limits; forms = λ m. st.forms m ∙ way_same w way done n m (other m); frame = st.frame }
 
 -- a branch leaves its hub
 abbrev form_dropped : ℕ → Option Form → Option Form
@@ -178,17 +182,17 @@ branch_form true w way done n hub m v e at st =
 branch_form false w way done n hub m v e at st = dropped_there n hub m (form_at hub v.nodes) v e ∙ st.forms m ∙ way_same w way done n m (ap (is_branch_of m) at ∙ e)
 
 branch_stands : (w : World) (way done : List ℕ) (n hub : ℕ) (v : World) → form_at n w.nodes ≡ Some (Branch hub) → Stands w way done v → Stands w (n ∷ way) done (without_branch n hub v)
-branch_stands w way done n hub v at st = record { limits = dropped_limits n hub (form_at hub v.nodes) v ∙ st.limits; forms = λ m. branch_form (nat_eq hub m) w way done n hub m v refl at st }
+branch_stands w way done n hub v at st = record { frame = framed_branch w done n hub (form_at hub v.nodes) v st.frame; limits = dropped_limits n hub (form_at hub v.nodes) v ∙ st.limits; forms = λ m. branch_form (nat_eq hub m) w way done n hub m v refl at st }
 
 -- the guard sees the same in what is left as in the world without the nodes that went
 left_more : (m : ℕ) (done : List ℕ) (e : Entry) (es : List Entry) → form_at m (filter (λ (x : Entry). not (is_in x.number done)) es) ≡ none_if (is_in m done) (form_at m es) → form_at m (filter (λ (x : Entry). not (is_in x.number done)) (e ∷ es)) ≡ none_if (is_in m done) (form_at m (e ∷ es))
 left_more m done e es h = grind (arith, nat_tests)
 
-form_left : (m : ℕ) (done : List ℕ) (es : List Entry) → form_at m (filter (λ (x : Entry). not (is_in x.number done)) es) ≡ none_if (is_in m done) (form_at m es)
+pub form_left : (m : ℕ) (done : List ℕ) (es : List Entry) → form_at m (filter (λ (x : Entry). not (is_in x.number done)) es) ≡ none_if (is_in m done) (form_at m es)
 form_left m done [] = sym (none_none (is_in m done))
 form_left m done (e ∷ es) = left_more m done e es (form_left m done es)
 
-found_staying : (c : Bool) (out : ℕ → Bool) (n : ℕ) (nodes : List Entry) (o : Option Form) → parts_found (none_if c (some_staying out n nodes o)) ≡ parts_found (none_if c o)
+pub found_staying : (c : Bool) (out : ℕ → Bool) (n : ℕ) (nodes : List Entry) (o : Option Form) → parts_found (none_if c (some_staying out n nodes o)) ≡ parts_found (none_if c o)
 found_staying true out n nodes o = refl
 found_staying false out n nodes None = refl
 found_staying false out n nodes (Some form) = parts_staying out n nodes form
@@ -233,12 +237,12 @@ hub_fell guard w k way done hub (Some _) s falls st = fell_none w way done s s r
 
 abandoned_stands : (w : World) (way done : List ℕ) (x : Option Named) (v : World) → Stands w way done v → Stands w way done (abandoned_as x v)
 abandoned_stands w way done None v st = st
-abandoned_stands w way done (Some x) v st = record { limits = st.limits; forms = st.forms }
+abandoned_stands w way done (Some x) v st = record { limits = st.limits; forms = st.forms; frame = framed_abandoned w done (Some x) v st.frame }
 
-wrap_stands : (w : World) (way done : List ℕ) (n canceler : ℕ) (h : Option Held) (v : World) → Stands w way done v → Stands w way done (without_wrap_in n canceler h v)
-wrap_stands w way done n canceler (Some (Canceler wraps)) v st = record { limits = st.limits; forms = st.forms }
-wrap_stands w way done n canceler None v st = st
-wrap_stands w way done n canceler (Some _) v st = st
+wrap_stands : (w : World) (way done : List ℕ) (n canceler : ℕ) (h : Option Held) (v : World) → held_at canceler v.names ≡ h → Stands w way done v → Stands w way done (without_wrap_in n canceler h v)
+wrap_stands w way done n canceler (Some (Canceler wraps)) v at st = record { limits = st.limits; forms = st.forms; frame = framed_wrap w done n canceler (Some (Canceler wraps)) v at st.frame }
+wrap_stands w way done n canceler None v at st = st
+wrap_stands w way done n canceler (Some _) v at st = st
 
 unlinked_fell : (guard : Guard) (w : World) (k : ℕ) (way done : List ℕ) (n : ℕ) (form : Form) (s : State) → FallsTo guard w k → form_at n w.nodes ≡ Some form → Stands w way done s.world → Fell w (n ∷ way) done (reference_falling guard w (falling guard w k) way done n form) s (unlinked guard (free_to guard k) n form s)
 unlinked_fell guard w k way done n (Branch hub) s falls at st =
@@ -250,7 +254,7 @@ unlinked_fell guard w k way done n (Branch hub) s falls at st =
     record { told = f.told; stands = f.stands }
 unlinked_fell guard w k way done n (Cell None) s falls at st = fell_none w (n ∷ way) done s (silent (λ v. abandoned_as (ask_of n v.names) v) s) refl (abandoned_stands w (n ∷ way) done (ask_of n s.world.names) s.world (away_stands w way done n s.world (λ m. ap (is_branch_of m) at) st))
 unlinked_fell guard w k way done n (Cell (Some outcome)) s falls at st = fell_none w (n ∷ way) done s s refl (away_stands w way done n s.world (λ m. ap (is_branch_of m) at) st)
-unlinked_fell guard w k way done n (Wrap canceler content) s falls at st = fell_none w (n ∷ way) done s (silent (λ v. without_wrap_in n canceler (held_at canceler v.names) v) s) refl (wrap_stands w (n ∷ way) done n canceler (held_at canceler s.world.names) s.world (away_stands w way done n s.world (λ m. ap (is_branch_of m) at) st))
+unlinked_fell guard w k way done n (Wrap canceler content) s falls at st = fell_none w (n ∷ way) done s (silent (λ v. without_wrap_in n canceler (held_at canceler v.names) v) s) refl (wrap_stands w (n ∷ way) done n canceler (held_at canceler s.world.names) s.world refl (away_stands w way done n s.world (λ m. ap (is_branch_of m) at) st))
 unlinked_fell guard w k way done n _ s falls at st = fell_none w (n ∷ way) done s s refl (away_stands w way done n s.world (λ m. ap (is_branch_of m) at) st)
 
 gone_fell : (w : World) (way done ns : List ℕ) (n : ℕ) (s t : State) → Fell w (n ∷ way) done ns s t → Fell w way done (ns ++ n ∷ []) s (gone n t)
@@ -294,3 +298,11 @@ node_falls guard k n s =
     let ns = falling guard s.world k [] [] n in
     let f = node_fell guard s.world k [] [] n s (starts s.world) in
     record { told = f.told; nodes = λ m. ap some_parts (f.stands.forms m) ∙ some_parts_then (is_in m ns) (λ b. is_in b ns) m s.world.nodes (form_at m s.world.nodes) }
+
+-- the same law with its frame
+pub node_frees : (guard : Guard) (k n : ℕ) (s : State) → FreedBy (falling guard s.world k [] [] n) s (free_to guard k n s)
+node_frees guard k n s = let f = node_fell guard s.world k [] [] n s (starts s.world) in record { told = f.told; limits = f.stands.limits; forms = f.stands.forms; frame = f.stands.frame }
+
+-- one node goes, which is no branch
+pub gone_freed : (n : ℕ) (s : State) → ((m : ℕ) → is_branch_of m (form_at n s.world.nodes) ≡ false) → FreedBy (n ∷ []) s (gone n s)
+gone_freed n s other = let st = gone_stands s.world [] [] n s.world (away_stands s.world [] [] n s.world other (starts s.world)) in record { told = refl; limits = st.limits; forms = st.forms; frame = st.frame }

@@ -88,10 +88,10 @@ lost_in (Some a) w = record w { awaited = None; left_over = a.root ∷ w.left_ov
 abbrev pub lost : World → World
 lost w = let v = disarmed_node 0 w in lost_in v.awaited v
 
--- the awaited tree is freed, and none is awaited
+-- the awaited tree is freed, and none is awaited: the wait's event goes with it
 abbrev pub awaited_freed : Option Awaited → State → State
 awaited_freed None s = s
-awaited_freed (Some a) s = silent (with_awaited None) (freed a.root s)
+awaited_freed (Some a) s = silent (λ w. disarmed_node 0 (with_awaited None w)) (freed a.root s)
 
 -- the awaited tree was evaluated: it is freed
 abbrev pub wait_valued : Option Outcome → State → State × Waited

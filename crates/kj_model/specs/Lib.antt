@@ -16,6 +16,7 @@ pub mod Log
 pub mod Text
 pub mod Trees
 pub mod Falling
+pub mod Framed
 pub mod HubWorld
 pub mod Owned
 pub mod OwnedTest

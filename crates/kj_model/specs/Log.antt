@@ -5,6 +5,7 @@ use Rattle.kj_base.specs.declared.actions.Ending.TheVariants.{Input}
 use Rattle.kj_model.specs.World.{World, State, Setting, Spot, Row, Asked, Ended, new_state}
 use Rattle.kj_base.specs.Record.{Item, Run, Free}
 use Rattle.kj_base.specs.declared.numbers.Limits.{Limits}
+use Rattle.kj_base.specs.declared.limits.TheConstants.{SLOTS, NAMES}
 use Rattle.kj_model.specs.Apply.{Refused, apply}
 use Rattle.kj_model.specs.Calls.{Turned, Fired, Idle, Waited, NotThere, turn, wait, take_ask, take_ended, take_abandoned, close}
 
@@ -43,7 +44,7 @@ pub data LogLine : Type 0 where
 
 -- the limits of a script, or the usual ones
 abbrev pub limits_or : Option Limits → Limits
-limits_or None = record { slots = 65536; names = 4096 }
+limits_or None = record { slots = SLOTS; names = NAMES }
 limits_or (Some limits) = limits
 
 -- the bodies of a step, in order

@@ -1,11 +1,9 @@
--- What each world of a loop keeps, beside its record.
-use Rattle.std.specs.Prelude.{◌≡◌, ℕ, List, [], ◌∷◌, ◌++◌, Option, None, Some, Bool, true, false, ◌==◌, ◌&&◌, nat_lt, nat_eq, map, flat_map, is_some, option_to_list}
-use Rattle.std.specs.List.{list_any, IsDistinct, AllByRecursion}
-use Rattle.kj_base.specs.Queue.{IsQueue}
+-- Where nodes stand, and what is read off a world and its record for what each world keeps.
+use Rattle.std.specs.Prelude.{◌≡◌, ℕ, List, [], ◌∷◌, ◌++◌, Option, None, Some, Bool, true, false, ◌==◌, map, flat_map, is_some, option_to_list}
+use Rattle.std.specs.List.{list_any}
 use Rattle.kj_model.specs.Nodes.{Entry, Form, Hub, Branch, is_in}
-use Rattle.kj_model.specs.World.{World, State, Named, Held, Promise, CellOf, AskCell, HubOf, Group, Canceler, RequestOf, Awaited, depth_of}
+use Rattle.kj_model.specs.World.{World, Named, Held, Promise, CellOf, AskCell, HubOf, Group, Canceler, RequestOf, Awaited, depth_of}
 use Rattle.kj_base.specs.Record.{Item, Run, Free}
-use Rattle.kj_model.specs.Changes.{frees_in}
 use Rattle.kj_model.specs.Trees.{tree_numbers}
 
 -- the roots that a name holds; a hub is no root of its name
@@ -71,11 +69,6 @@ branch_to hub other n = []
 abbrev pub branches_to : ℕ → List Entry → List ℕ
 branches_to hub nodes = flat_map (λ (e : Entry). branch_to hub e.form e.number) nodes
 
--- a hub's references are its name and its live branches
-abbrev pub HasReferences : World → ℕ → Form → Type 0
-HasReferences w n (Hub content is_named branches) = (is_named ≡ list_any (λ (x : Named). is_hub_name n x.held) w.names) × (branches ≡ branches_to n w.nodes)
-HasReferences w n other = Unit {0}
-
 -- a run of this node's step
 abbrev pub is_run_of : ℕ → Item → Bool
 is_run_of n (Run node step input action) = node == n
@@ -94,17 +87,3 @@ may_stand w e = if_zero (e == 0) (is_some w.awaited) (is_in e (numbers w.nodes))
     if_zero : Bool → Bool → Bool → Bool
     if_zero true waits live = waits
     if_zero false waits live = live
-
--- what a world and its record keep
-pub record Owned (s : State) : Type 0 where
-  -- each live number stands once, in one place
-  pub once : IsDistinct nat_eq (standing s.world)
-  pub live : (n : ℕ) → is_in n (standing s.world) ≡ is_in n (numbers s.world.nodes)
-  pub hubs : AllByRecursion (λ (e : Entry). HasReferences s.world e.number e.form) s.world.nodes
-  -- queue numbers are live, or 0 where a tree is awaited
-  pub queue : IsQueue s.world.queue
-  pub queued : AllByRecursion (λ e. may_stand s.world e ≡ true) s.world.queue.list
-  -- each number below the next is live or was freed, once
-  pub apart : IsDistinct nat_eq (numbers s.world.nodes ++ frees_in s.past)
-  pub built : (n : ℕ) → is_in n (numbers s.world.nodes ++ frees_in s.past) ≡ (nat_lt 0 n && nat_lt n s.world.next)
-  pub in_order : IsInOrder s.past

@@ -7,6 +7,7 @@ ghost use Rattle.kj_base.specs.Queue.{Events, Way, IsQueue, is_armed, armed, dis
 ghost use Rattle.kj_model.specs.Apply.{Refused, refusal, apply};
 ghost use Rattle.kj_model.specs.Calls.{Call, call, calls, turn, Idle};
 ghost use Rattle.kj_model.specs.Causes.{causes, first_cause};
+ghost use Rattle.kj_model.specs.Framed.{FreedBy};
 ghost use Rattle.kj_model.specs.Falling.{falling, Reason, StandApart};
 ghost use Rattle.kj_model.specs.Free.{Guard, Every, free_to};
 ghost use Rattle.kj_model.specs.Grown.{Grows};
@@ -47,6 +48,11 @@ pub fn tree_is_freed()
     ensures whole { (guard : Guard) (k n : ℕ) (s : State) → Frees (falling guard s.world k [] [] n) s (free_to guard k n s) }
     ensures closing { (k n : ℕ) (s : State) → AreApart (tree_numbers k s.world.nodes n) → Frees (tree_numbers k s.world.nodes n) s (free_to Every k n s) }
     ensures guarded { (guard : Guard) (k n : ℕ) (s : State) → AreApart (tree_numbers k s.world.nodes n) → HubsStay (tree_numbers k s.world.nodes n) s.world.nodes → Frees (tree_numbers k s.world.nodes n) s (free_to guard k n s) }
+{}
+
+/// A free leaves all else as it was: the queue loses the events of what went, hubs lose the branches that went, and cancelers the Wraps.
+pub fn free_keeps_the_rest()
+    ensures { (guard : Guard) (k n : ℕ) (s : State) → FreedBy (falling guard s.world k [] [] n) s (free_to guard k n s) }
 {}
 
 /// What goes with a node is its tree where no hub goes; else the hubs' trees too.
