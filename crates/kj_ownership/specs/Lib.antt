@@ -1,0 +1,6 @@
+pub mod Owners
+pub mod Standing
+pub mod Stems
+pub mod Shapes
+pub mod Fits
+pub mod Kept

@@ -1,0 +1,78 @@
+//! Laws of ownership.
+ghost use Rattle.kj_base.specs.Commands.{Command, Drop, Stop};
+ghost use Rattle.kj_base.specs.Places.{counts};
+ghost use Rattle.kj_base.specs.declared.numbers.Limits.{Limits};
+ghost use Rattle.kj_model.specs.Apply.{apply, is_full, names_after, rows, would_free};
+ghost use Rattle.kj_model.specs.Calls.{Call, call, close, hubs_of};
+ghost use Rattle.kj_model.specs.Changes.{frees_in, named, unnamed};
+ghost use Rattle.kj_model.specs.Falling.{falling};
+ghost use Rattle.kj_model.specs.Framed.{times};
+ghost use Rattle.kj_model.specs.Free.{Guard, Holding, free};
+ghost use Rattle.kj_model.specs.Nodes.{form_at, is_in};
+ghost use Rattle.kj_model.specs.Owned.{IsInOrder, numbers, tree_roots};
+ghost use Rattle.kj_model.specs.Places.{table_fits};
+ghost use Rattle.kj_model.specs.Trees.{tree_numbers};
+ghost use Rattle.kj_model.specs.World.{Promise, RequestOf, Setting, State, depth_of, held_at, new_state};
+ghost use Rattle.kj_ownership.specs.Fits.{Fits};
+ghost use Rattle.kj_ownership.specs.Kept.{Kept, TakesSpent, is_open};
+ghost use Rattle.kj_ownership.specs.Owners.{is_live};
+ghost use Rattle.kj_ownership.specs.Shapes.{Shaped};
+ghost use Rattle.kj_ownership.specs.Standing.{Owned, Standing, one_if};
+ghost use Rattle.kj_ownership.specs.Stems.{Frames, is_steady, stem};
+ghost use Rattle.std.specs.Prelude.{[], Bool, None, Some, drop, false, flat_map, length, nat_lt, true, ℕ, List, ◌&&◌, ◌*◌, ◌++◌, ◌+◌, ◌^◌, ◌∷◌, ◌≡◌, ◌≤◌};
+
+/// A new loop keeps what loops keep between calls, and so does each call that doesn't close it, where the store takes no more nodes than it has slots, and a taking call frees the name of an ended request or of an ask's cell.
+pub fn calls_keep_worlds()
+    ensures start { (limits : Limits) → Kept (new_state limits) }
+    ensures step { (setting : Setting) (c : Call) (s : State) → Fits setting → is_open c ≡ true → TakesSpent c s.world → Kept s → Kept (call setting c s).0 }
+{}
+
+/// The plain table takes no more nodes than it has slots.
+pub fn table_takes_no_more()
+    ensures { (setting : Setting) → setting.fits ≡ table_fits → Fits setting }
+{}
+
+/// Each command, in a step or outside, keeps what worlds keep.
+pub fn commands_keep_worlds()
+    ensures owned { (setting : Setting) (inside : Bool) (c : Command) (s : State) → Fits setting → Owned s → Shaped s.world → Owned (apply setting inside c s).0 }
+    ensures shaped { (setting : Setting) (inside : Bool) (c : Command) (s : State) → Fits setting → Owned s → Shaped s.world → Shaped (apply setting inside c s).0.world }
+{}
+
+/// While a step runs under a node, each command leaves that node, the nodes above it that are being evaluated, and the one whose event fires, with their forms, but for a hub's name and branches.
+pub fn steps_spare_what_is_evaluated()
+    ensures { (setting : Setting) (c : Command) (s : State) (n : ℕ) (fs : List ℕ) → Fits setting → Owned s → Shaped s.world → Frames s.world n fs → is_steady (form_at n s.world.nodes) ≡ true → (m : ℕ) → is_in m (n ∷ fs) ≡ true → stem (form_at m (apply setting true c s).0.world.nodes) ≡ stem (form_at m s.world.nodes) }
+{}
+
+/// After each call no step has run under a node that was freed before.
+pub fn freed_steps_never_run()
+    ensures { (setting : Setting) (c : Call) (s : State) → Fits setting → is_open c ≡ true → TakesSpent c s.world → Kept s → IsInOrder (call setting c s).0.past }
+{}
+
+/// Freeing a root that stands nowhere keeps what worlds keep, under each guard, hubs included.
+pub fn free_keeps_what_worlds_keep()
+    ensures { (guard : Guard) (root : ℕ) (loose out : List ℕ) (s : State) → Standing (root ∷ loose) out [] s → Standing loose out [] (free guard root s) }
+{}
+
+/// Closing a world that keeps what worlds keep, and in which no tree is awaited, frees each number that was built once and no other; and it answers the live numbers, each once.
+pub fn close_frees_each_number_once()
+    ensures once { (s : State) → Owned s → s.world.awaited ≡ None → (m : ℕ) → times m (frees_in (close s).past) ≡ one_if (nat_lt 0 m && nat_lt m s.world.next) }
+    ensures answer { (s : State) → Owned s → s.world.awaited ≡ None → (m : ℕ) → times m (frees_in (drop (length s.past) (close s).past)) ≡ times m (numbers s.world.nodes) }
+    ensures none { (s : State) → Owned s → s.world.awaited ≡ None → (m : ℕ) → is_live m (close s).world.nodes ≡ false }
+    ensures owned { (s : State) → Owned s → s.world.awaited ≡ None → Owned (close s) }
+{}
+
+/// A Drop of a promise and a Stop would free just what goes with the tree, read off the nodes as they stand.
+pub fn busy_reads_what_goes()
+    ensures dropped { (f name root : ℕ) (s : State) → held_at name s.world.names ≡ Some (Promise root) → would_free f (Drop name) s ≡ is_in f (falling (Holding []) (unnamed name s.world) (depth_of s.world) [] [] root) }
+    ensures stopped { (f request node : ℕ) (s : State) → held_at request s.world.names ≡ Some (RequestOf (Some node)) → would_free f (Stop request) s ≡ is_in f (falling (Holding []) (named request (RequestOf None) s.world) (depth_of s.world) [] [] node) }
+{}
+
+/// No more nodes live than the trees of the roots have: those of names, the awaited one, those left over, those detached, and hubs.
+pub fn live_nodes_are_few()
+    ensures { (s : State) → Owned s → length (numbers s.world.nodes) ≤ length (flat_map (tree_numbers (depth_of s.world) s.world.nodes) (tree_roots s.world ++ hubs_of s.world.nodes)) }
+{}
+
+/// Over the plain table, where each tree has at most so many nodes, and the slots are enough for as many trees and the names for the command's, no command is refused as full.
+pub fn no_command_is_full()
+    ensures { (setting : Setting) (c : Command) (s : State) (most : ℕ) → setting.fits ≡ table_fits → Owned s → ((root : ℕ) → is_in root (tree_roots s.world ++ hubs_of s.world.nodes) ≡ true → length (tree_numbers (depth_of s.world) s.world.nodes root) ≤ most) → length (tree_roots s.world ++ hubs_of s.world.nodes) * most + counts (rows c s.world) ≤ s.world.limits.slots → names_after c s.world ≤ s.world.limits.names → s.world.next ≤ 2 ^ 63 → is_full setting c s.world ≡ false }
+{}
