@@ -1,5 +1,5 @@
 -- Spots when a node is placed or freed.
-use Rattle.std.proofs.Common.{◌≡◌, ◌≢◌, ℕ, ◌+◌, ◌-◌, ◌<◌, List, [], ◌∷◌, ◌++◌, Bool, true, false, Option, None, Some, IsTrue, IsSome, length, refl, sym, ◌∙◌, ap, arith, length-append}
+use Rattle.std.proofs.Common.{◌≡◌, ◌≢◌, ℕ, ◌+◌, ◌-◌, ◌<◌, ◌≤◌, List, [], ◌∷◌, ◌++◌, Bool, true, false, Option, None, Some, IsTrue, IsSome, length, refl, sym, ◌∙◌, ap, arith, length-append}
 use Rattle.std.specs.Prelude.{nat_lt, nat_le, nat_eq, is_some, ◌==◌, ◌||◌, slice_index_or, cond}
 use Rattle.std.proofs.lemmas.Bool.{or_parts, false≢true}
 use Rattle.std.proofs.lemmas.Bool.Decides.{nat_tests}
@@ -29,20 +29,20 @@ swapped a b h = grind (arith, nat_tests)
 same : (a : ℕ) → nat_eq a a ≡ true
 same a = grind (arith, nat_tests)
 
-at_push : (slot : ℕ) (spots : List Spot) (x : Spot) → is_at slot (spots ++ x ∷ []) ≡ (is_at slot spots || (nat_eq x.number slot || false))
+pub at_push : (slot : ℕ) (spots : List Spot) (x : Spot) → is_at slot (spots ++ x ∷ []) ≡ (is_at slot spots || (nat_eq x.number slot || false))
 at_push slot spots x = list_any-append (λ (y : Spot). y.number == slot) spots (x ∷ [])
 
-apart_push : (spots : List Spot) (x : Spot) → AreApart spots → is_at x.number spots ≡ false → AreApart (spots ++ x ∷ [])
+pub apart_push : (spots : List Spot) (x : Spot) → AreApart spots → is_at x.number spots ≡ false → AreApart (spots ++ x ∷ [])
 apart_push [] x h n = (refl, tt)
 apart_push (y ∷ ys) x h n = let p = or_parts (nat_eq y.number x.number) (is_at x.number ys) n in
     (rw (at_push y.number ys x, h.0, swapped y.number x.number p.0) refl, apart_push ys x h.1 p.1)
 
-kept_all : (n : ℕ) (spots : List Spot) → is_at n spots ≡ false → spots_without n spots ≡ spots
+pub kept_all : (n : ℕ) (spots : List Spot) → is_at n spots ≡ false → spots_without n spots ≡ spots
 kept_all n [] h = refl
 kept_all n (x ∷ xs) h = let p = or_parts (nat_eq x.number n) (is_at n xs) h in rw p.0 (ap (λ ys. x ∷ ys) (kept_all n xs p.1))
 
 -- a spot with the number that another one has
-at_same : (m n : ℕ) (spots : List Spot) → nat_eq m n ≡ true → is_at m spots ≡ false → is_at n spots ≡ false
+pub at_same : (m n : ℕ) (spots : List Spot) → nat_eq m n ≡ true → is_at m spots ≡ false → is_at n spots ≡ false
 at_same m n spots e h = let k : m ≡ n = grind (arith, nat_tests) in rw (← k) h
 
 left_true : (a b : Bool) → a ≡ false → (a || b) ≡ true → b ≡ true
@@ -71,7 +71,7 @@ apart_one : (b : Bool) (n : ℕ) (x : Spot) (xs : List Spot) → nat_eq x.number
 apart_one true n x xs e a h = rw e h
 apart_one false n x xs e a h = rw e (at_less n x.number xs a, h)
 
-apart_without : (n : ℕ) (spots : List Spot) → AreApart spots → AreApart (spots_without n spots)
+pub apart_without : (n : ℕ) (spots : List Spot) → AreApart spots → AreApart (spots_without n spots)
 apart_without n [] h = tt
 apart_without n (x ∷ xs) h = apart_one (nat_eq x.number n) n x xs refl h.0 (apart_without n xs h.1)
 
@@ -80,7 +80,7 @@ same_one : (b : Bool) (n slot : ℕ) (x : Spot) (xs : List Spot) → nat_eq x.nu
 same_one true n slot x xs e d h = let k : nat_eq x.number slot ≡ false = grind (arith, nat_tests) in rw (e, k) h
 same_one false n slot x xs e d h = rw (e, h) refl
 
-at_others : (n slot : ℕ) (spots : List Spot) → nat_eq slot n ≡ false → is_at slot (spots_without n spots) ≡ is_at slot spots
+pub at_others : (n slot : ℕ) (spots : List Spot) → nat_eq slot n ≡ false → is_at slot (spots_without n spots) ≡ is_at slot spots
 at_others n slot [] d = refl
 at_others n slot (x ∷ xs) d = same_one (nat_eq x.number n) n slot x xs refl d (at_others n slot xs d)
 
@@ -88,7 +88,7 @@ none_one : (b : Bool) (n : ℕ) (x : Spot) (xs : List Spot) → nat_eq x.number 
 none_one true n x xs e h = rw e h
 none_one false n x xs e h = rw (e, e) h
 
-none_at : (n : ℕ) (spots : List Spot) → is_at n (spots_without n spots) ≡ false
+pub none_at : (n : ℕ) (spots : List Spot) → is_at n (spots_without n spots) ≡ false
 none_at n [] = refl
 none_at n (x ∷ xs) = none_one (nat_eq x.number n) n x xs refl (none_at n xs)
 
@@ -128,6 +128,7 @@ pub record IsPlaced (old new : Table) (before : Option ℕ) (slot : ℕ) : Type 
   pub placed : is_some (slice_index_or new.cells slot None) ≡ true
   pub others : (other : ℕ) → other ≢ slot → slice_index_or new.cells other None ≡ covered_by before other (slice_index_or old.cells other None)
   pub live : live_count new ≡ live_count old + 1
+  pub few : live_count new ≤ new.slots
   pub below : slot < old.slots
   pub slots : new.slots ≡ old.slots
 
@@ -167,6 +168,7 @@ placed_stands old new before slot key spots p s =
       all = let l = length-append spots (x ∷ []) in let a = s.all in let k = p.live in omega (arith, l, a, k);
       apart = apart_push spots x s.apart (rw n f);
       each = λ other. rw (at_push other spots x, n) (each_push (nat_eq slot other) old new before slot spots other refl p (s.each other));
+      few = p.few;
     }
 
 -- the node of a live slot went
@@ -190,8 +192,13 @@ freed_stands old new slot spots p s = record {
   all = let l = length_without slot spots s.apart (s.each slot ∙ p.was_live) in let a = s.all in let k = p.live in omega (arith, l, a, k);
   apart = apart_without slot spots s.apart;
   each = λ other. each_less (nat_eq slot other) old new slot spots other refl p (s.each other);
+  few = let a = s.few in let k = p.live in let l = p.slots in omega (arith, a, k, l);
 }
 
 pub has_node : (cell : Option Cell) → IsSome (node_in cell) → is_some cell ≡ true
 has_node None h = absurd (false≢true h)
 has_node (Some cell) h = refl
+
+-- where one more node fits, it is within the slots
+pub few_placed : (t : Table) (before : Option ℕ) (live : ℕ) → IsTrue (has_room t (row before 1 ∷ [])) → live ≡ live_count t + 1 → live ≤ t.slots
+few_placed t before live h e = grind (arith, nat_tests)

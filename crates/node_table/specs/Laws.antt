@@ -38,6 +38,10 @@ counts_append (r ∷ front) back = let h = counts_append front back in omega (ar
 fewer : (a b n : ℕ) → a ≤ b → IsTrue (nat_le b n) → IsTrue (nat_le a n)
 fewer a b n h t = grind (arith, nat_tests)
 
+-- there are no more live slots than slots
+pub table_few : (t : Table) (spots : List Spot) → Stands t spots → length spots ≤ t.slots
+table_few t spots s = let a = s.all in let b = s.few in omega (arith, a, b)
+
 -- rows may be left out
 pub table_left_out : (t : Table) (front : List Row) (left : Row) (back : List Row) → IsTrue (has_room t (front ++ left ∷ back)) → IsTrue (has_room t (front ++ back))
 table_left_out t front left back h = fewer _ (live_count t + counts (front ++ left ∷ back)) t.slots (omega (arith, counts_append front (left ∷ back), counts_append front back, counts_cons left back)) h

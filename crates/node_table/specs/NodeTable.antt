@@ -71,6 +71,7 @@ pub record Stands (t : Table) (spots : List Spot) : Type 0 where
   pub all : length spots ≡ live_count t
   pub apart : AreApart spots
   pub each : (slot : ℕ) → is_at slot spots ≡ is_some (cell_at t slot)
+  pub few : live_count t ≤ t.slots
 
 -- a cell before whose node one was placed
 abbrev pub covered : Option Cell → Option Cell

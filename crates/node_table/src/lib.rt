@@ -180,11 +180,13 @@ impl Store for NodeTable {
         self.cells.remove(slot.0 as usize);
     }
 
-    ghost use Rattle.node_table.specs.Laws.{table_live_below, table_bare_live, table_left_out, table_one_of_two, table_before_bare, table_ruled, table_renamed};
+    ghost use Rattle.node_table.specs.Laws.{table_live_below, table_bare_live, table_few, table_left_out, table_one_of_two, table_before_bare, table_ruled, table_renamed};
 
     ghost live_below = { table_live_below };
 
     ghost bare_live = { table_bare_live };
+
+    ghost few = { table_few };
 
     ghost left_out = { table_left_out };
 

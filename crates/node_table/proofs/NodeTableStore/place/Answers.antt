@@ -2,7 +2,7 @@ use Rattle.std.proofs.Common.{arith, ap, refl}
 use Rattle.std.specs.Prelude.{is_some}
 use Rattle.kj_base.specs.Store.{slot_number}
 use Rattle.node_table.specs.NodeTable.{view_of}
-use Rattle.node_table.proofs.Standing.{placed_stands}
+use Rattle.node_table.proofs.Standing.{placed_stands, few_placed}
 use Rattle.node_table.proofs.NodeTableStore.place.Goals as goal
 
 pub returns-clause-spots : goal.returns-clause-spots
@@ -13,6 +13,7 @@ returns-clause-spots c = λ spots key stands below. placed_stands
       placed = ap is_some c.place_in-key.ensures.placed;
       others = c.place_in-key.ensures.others;
       live = c.place_in-key.ensures.len;
+      few = few_placed (view_of c.self.inside) (slot_number c.args.before) _ (rw (← c.self.view_is) at c.requires.fits) c.place_in-key.ensures.len;
       below = omega (arith, c.place_in-key.ensures.below, c.self.invariant.capacity);
       slots = refl;
     })

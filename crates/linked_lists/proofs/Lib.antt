@@ -1,0 +1,4 @@
+pub mod Paths
+pub mod Rings
+pub mod Reading
+pub mod Changed
