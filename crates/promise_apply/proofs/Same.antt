@@ -1,0 +1,59 @@
+-- What building and listening leave of a world.
+use Rattle.std.proofs.Common.{ℕ, Option, None, Some, Bool, true, false, refl}
+use Rattle.std.specs.Prelude.{nat_lt}
+use Rattle.kj_base.specs.Places.{Spot, spot_of}
+use Rattle.kj_base.specs.Queue.{Way}
+use Rattle.kj_base.specs.declared.outcomes.Outcome.{Outcome}
+use Rattle.kj_model.specs.Nodes.{Form, Cell, form_at}
+use Rattle.kj_model.specs.World.{World, Held, depth_of}
+use Rattle.kj_model.specs.Changes.{named, unnamed, arm_listener, put}
+use Rattle.kj_model.specs.Effects.{with_detached}
+use Rattle.kj_model.specs.Listening.{listened, listened_if, listened_way, listener, ready, is_last, settled, settled_form}
+use Rattle.kj_model.specs.Places.{built, numbered, placed_over, placed_if}
+use Rattle.promise_nodes.specs.Kept.{SameNodes}
+use Rattle.promise_names.specs.Held.{SameNames}
+
+built_if : (b : Bool) (x : Spot) (form : Form) (w : World) → SameNames w (numbered form (placed_if b x w))
+built_if true x form w = refl
+built_if false x form w = refl
+
+built_over : (o : Option Spot) (form : Form) (w : World) → SameNames w (numbered form (placed_over o w))
+built_over None form w = refl
+built_over (Some x) form w = built_if (nat_lt 0 x.place) x form w
+
+-- names stay when a node is built
+pub built_names : (before : Option ℕ) (form : Form) (w : World) → SameNames w (built before form w)
+built_names None form w = refl
+built_names (Some n) form w = built_over (spot_of n w.spots) form w
+
+armed_names : (way : Way) (by : Option ℕ) (w : World) → SameNames w (arm_listener way by w)
+armed_names way None w = refl
+armed_names way (Some n) w = refl
+
+listened_case : (b : Bool) (n : ℕ) (w : World) → SameNames w (listened_if b n w)
+listened_case true n w = armed_names (listened_way (is_last (depth_of w) w.nodes n)) (listener n w) w
+listened_case false n w = refl
+
+-- and when a tree gets a listener
+pub listened_names : (n : ℕ) (w : World) → SameNames w (listened n w)
+listened_names n w = listened_case (ready (depth_of w) w.nodes n) n w
+
+-- nodes stay when a name comes or goes
+pub named_nodes : (name : ℕ) (held : Held) (w : World) → SameNodes w (named name held w)
+named_nodes name held w = refl
+
+pub unnamed_nodes : (name : ℕ) (w : World) → SameNodes w (unnamed name w)
+unnamed_nodes name w = refl
+
+pub detached_nodes : (task : ℕ) (w : World) → SameNodes w (with_detached task w)
+detached_nodes task w = refl
+
+settled_case : (way : Way) (n : ℕ) (o : Outcome) (w : World) (f : Option Form) → SameNames w (settled_form way n o f w)
+settled_case way n o w (Some (Cell None)) = let v = put n (Cell (Some o)) w in armed_names way (listener n v) v
+settled_case way n o w (Some (Cell (Some kept))) = refl
+settled_case way n o w None = refl
+settled_case way n o w (Some _) = refl
+
+-- and when a cell is settled
+pub settled_names : (way : Way) (n : ℕ) (o : Outcome) (w : World) → SameNames w (settled way n o w)
+settled_names way n o w = settled_case way n o w (form_at n w.nodes)

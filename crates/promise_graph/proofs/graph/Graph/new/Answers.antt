@@ -1,0 +1,5 @@
+use Rattle.promise_graph.proofs.New.{new_kept}
+use Rattle.promise_graph.proofs.graph.Graph.new.Goals as goal
+
+pub invariant_of-result : goal.invariant_of-result
+invariant_of-result g c = new_kept (g.St.Store.node_at c.args.store) c.requires.no_nodes c.in-Ok.marks c.args.limits.slots c.in-Ok.ensures _ _ _ _ c.requires.few c.requires.store c.requires.size c.requires.no_events

@@ -1,0 +1,26 @@
+//! The nodes of a promise graph in the slots of a store, by number.
+#![tactic(auto)]
+
+mod building;
+mod calls;
+mod events;
+mod fields;
+mod finding;
+mod fitting;
+mod freeing;
+mod graph;
+mod hubs;
+mod index;
+mod making;
+mod owners;
+mod parts;
+mod putting;
+mod rings;
+
+pub use fields::{Fields, Marks, Rings};
+pub use graph::Graph;
+pub use index::Entry;
+pub use parts::Span;
+
+#[cfg(test)]
+mod tests;

@@ -1,0 +1,6 @@
+//! The names of a loop, as the layers above see them.
+#![tactic(auto)]
+
+mod names;
+
+pub use names::{Held, Names};

@@ -1,0 +1,6 @@
+//! The nodes of a loop, by number, as the layers above the graph see them.
+#![tactic(auto)]
+
+mod nodes;
+
+pub use nodes::{NodeRow, Nodes, Way};

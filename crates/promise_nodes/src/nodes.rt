@@ -1,0 +1,242 @@
+//! A keeper of nodes.
+ghost use Rattle.std.specs.Prelude.{◌≡◌, ◌≢◌, ◌+◌, ◌<◌, ◌≤◌, ◌^◌, ◌∷◌, [], ℕ, List, Option, None, Some, Bool, true, false, IsTrue, option_copied, length, ◌++◌};
+ghost use Rattle.kj_base.specs.Places.{Spot, Row as RowSeen, row};
+ghost use Rattle.kj_base.specs.Queue.{head_of, first_of};
+ghost use Rattle.kj_model.specs.World.{World, Awaited};
+ghost use Rattle.kj_model.specs.Nodes.{form_at, owner_of, parts_of, Branch};
+ghost use Rattle.kj_model.specs.Places.{built};
+ghost use Rattle.kj_model.specs.Fire.{branches_of};
+ghost use Rattle.kj_model.specs.Free.{without_branch};
+ghost use Rattle.kj_model.specs.Changes.{gone_world, arm_listener};
+ghost use Rattle.kj_model.specs.Effects.{with_branch_in, disarmed_node};
+ghost use Rattle.kj_model.specs.Calls.{rewound_world, taken_world};
+ghost use Rattle.promise_nodes.specs.Shown.{shown, link_number, Sees, SeesOwner, way_of};
+ghost use Rattle.promise_nodes.specs.Kept.{SameNodes, IsLive, IsEvent, IsBranch, IsPart, IsReplaceable, KeepsKind, is_unreferenced, awaited_root, rows_left, OnlyFalls, OnlyRises, RisesIn, IsPlain, ShowsPlain, AreRoots, AreBuilt, AddsNone, AreRowsBuilt, put_form, rows_seen, tree_replaced};
+
+use kj_base::{Form, Link};
+
+/// The three ways to arm an event.
+#[derive(Clone, Copy, Debug, PartialEq, Eq)]
+pub enum Way {
+    DepthFirst,
+    BreadthFirst,
+    AtLast,
+}
+
+/// One or two nodes, placed one before the other, the first of them before a node or anew.
+#[derive(Clone, Copy, Debug, PartialEq, Eq)]
+pub struct NodeRow {
+    pub before: Option<Link>,
+    pub count: u8,
+}
+
+/// Keeps the nodes of a loop, its event queue, the event that fires and the tree that a wait awaits; it knows no names.
+/// A link says which node is meant by its number; its slot only finds it sooner. No call takes memory.
+///
+/// The contracts speak of each world that it stands for: of its nodes, queue, spots, limits, firing event and awaited
+/// tree, whatever the names and lists of that world are.
+pub trait Nodes {
+    /// It stands for this world.
+    ghost stands: { Self → World → Type 0 };
+
+    /// The number of slots, which no call changes.
+    ghost slots: { Self → ℕ };
+
+    /// The number of the next node.
+    ghost next: { Self → ℕ };
+
+    /// Whether a node is live and was made the tree of another one.
+    ghost is_taken: { Self → ℕ → Bool };
+
+    /// Whether a node is live and stands in the list of a hub's branches.
+    ghost is_listed: { Self → ℕ → Bool };
+
+    /// Whether a number was given to a node that is no hub and no branch, or that went.
+    ghost is_plain: { Self → ℕ → Bool };
+
+    /// Whether nodes in these rows can be placed.
+    ghost room: { Self → List RowSeen → Bool };
+
+    /// The same by the number of slots and the spots of the live nodes.
+    ghost rule: { ℕ → List Spot → List RowSeen → Bool };
+
+    /// The number of slots.
+    fn slots(&self) -> u32
+        ensures { result ≡ slots self.now };
+
+    /// The link to the next node that is built.
+    fn next(&self) -> u64
+        ensures { result ≡ next self.now };
+
+    /// The form of a live node; none where it isn't live.
+    fn form(&self, node: Link) -> Option<&Form>
+        ensures form { (w : World) → stands self.now w → Sees (option_copied result) (form_at node.number.0 w.nodes) }
+        ensures listed { is_listed self.now node.number.0 ≡ true → IsBranch (option_copied result) }
+        ensures plain { ShowsPlain (option_copied result) → is_plain self.now node.number.0 ≡ true };
+
+    /// The node that owns a live one.
+    fn owner(&self, node: Link) -> Option<Link>
+        ensures { (w : World) → stands self.now w → IsLive w node.number.0 → SeesOwner w.nodes result (owner_of node.number.0 w.nodes) };
+
+    /// The node whose event fires.
+    fn firing(&self) -> Option<Link>
+        ensures { (w : World) → stands self.now w → w.firing ≡ link_number result };
+
+    /// The root that a wait awaits.
+    fn awaited(&self) -> Option<Link>
+        ensures { (w : World) → stands self.now w → awaited_root w.awaited ≡ link_number result };
+
+    /// Whether nodes in these rows can be placed.
+    fn fits(&self, rows: &[NodeRow]) -> bool
+        requires few { length rows.now ≤ 16 }
+        ensures room { result ≡ room self.now (rows_seen rows.now) }
+        ensures ruled { (w : World) → stands self.now w → result ≡ rule (slots self.now) w.spots (rows_seen rows.now) };
+
+    /// A node with the next number, before another one or anew. It takes the trees that its form has.
+    fn build(&mut self, before: Option<Link>, form: Form) -> Link
+        requires before { IsPart (link_number before) (parts_of (shown [] form)) }
+        requires roots { AreRoots (is_taken self.old) (parts_of (shown [] form)) }
+        requires built { AreBuilt (next self.old) (parts_of (shown [] form)) }
+        requires fits { IsTrue (room self.old (row (link_number before) 1 ∷ [])) }
+        requires numbers { next self.old < 2 ^ 63 + 8 }
+        ensures number { result.number.0 ≡ next self.old }
+        ensures next { next self.new ≡ next self.old + 1 }
+        ensures rest { (more : List RowSeen) (count : ℕ) → 0 < count → AreRowsBuilt (next self.old) more → IsTrue (room self.old (row (link_number before) count ∷ more)) → IsTrue (room self.new (rows_left (next self.old) count more)) }
+        ensures stands { (w : World) → stands self.old w → stands self.new (built (link_number before) (shown [] form) w) }
+        ensures root { is_taken self.new result.number.0 ≡ false }
+        ensures taken { RisesIn (parts_of (shown [] form)) (is_taken self.old) (is_taken self.new) }
+        ensures listed { OnlyFalls (is_listed self.old) (is_listed self.new) }
+        ensures plain { OnlyRises (is_plain self.old) (is_plain self.new) }
+        ensures slots { slots self.new ≡ slots self.old };
+
+    /// A node has this form now, where it is live; it has no new tree. A hub keeps its branches.
+    fn put(&mut self, node: Link, form: Form)
+        ensures stands { (w : World) → stands self.old w → KeepsKind form (form_at node.number.0 w.nodes) → AddsNone w node.number.0 (shown [] form) → stands self.new (put_form node.number.0 form w) }
+        ensures taken { OnlyFalls (is_taken self.old) (is_taken self.new) }
+        ensures listed { OnlyFalls (is_listed self.old) (is_listed self.new) }
+        ensures plain { OnlyRises (is_plain self.old) (is_plain self.new) }
+        ensures next { next self.new ≡ next self.old }
+        ensures slots { slots self.new ≡ slots self.old };
+
+    /// A node goes, with its event.
+    fn drop_node(&mut self, node: Link)
+        requires unlisted { is_listed self.old node.number.0 ≡ false }
+        ensures stands { (w : World) → stands self.old w → stands self.new (gone_world node.number.0 w) }
+        ensures taken { OnlyFalls (is_taken self.old) (is_taken self.new) }
+        ensures listed { OnlyFalls (is_listed self.old) (is_listed self.new) }
+        ensures plain { OnlyRises (is_plain self.old) (is_plain self.new) }
+        ensures next { next self.new ≡ next self.old }
+        ensures slots { slots self.new ≡ slots self.old };
+
+    /// A branch is its hub's newest.
+    fn join_hub(&mut self, branch: Link, hub: Link)
+        requires unlisted { is_listed self.old branch.number.0 ≡ false }
+        ensures stands { (w : World) → stands self.old w → form_at branch.number.0 w.nodes ≡ Some (Branch hub.number.0) → stands self.new (with_branch_in branch.number.0 hub.number.0 (form_at hub.number.0 w.nodes) w) }
+        ensures taken { OnlyFalls (is_taken self.old) (is_taken self.new) }
+        ensures listed { RisesIn (branch.number.0 ∷ []) (is_listed self.old) (is_listed self.new) }
+        ensures plain { OnlyRises (is_plain self.old) (is_plain self.new) }
+        ensures next { next self.new ≡ next self.old }
+        ensures slots { slots self.new ≡ slots self.old };
+
+    /// A branch leaves its hub; whether the hub has neither name nor branch now.
+    fn leave_hub(&mut self, branch: Link, hub: Link) -> bool
+        ensures stands { (w : World) → stands self.old w → form_at branch.number.0 w.nodes ≡ Some (Branch hub.number.0) → stands self.new (without_branch branch.number.0 hub.number.0 w) }
+        ensures last { (w : World) → stands self.old w → form_at branch.number.0 w.nodes ≡ Some (Branch hub.number.0) → result ≡ is_unreferenced (form_at hub.number.0 (without_branch branch.number.0 hub.number.0 w).nodes) }
+        ensures unlisted { is_listed self.new branch.number.0 ≡ false }
+        ensures taken { OnlyFalls (is_taken self.old) (is_taken self.new) }
+        ensures listed { OnlyFalls (is_listed self.old) (is_listed self.new) }
+        ensures plain { OnlyRises (is_plain self.old) (is_plain self.new) }
+        ensures next { next self.new ≡ next self.old }
+        ensures slots { slots self.new ≡ slots self.old };
+
+    /// Whether a hub has neither name nor branch.
+    fn is_unreferenced(&self, hub: Link) -> bool
+        ensures { (w : World) → stands self.now w → result ≡ is_unreferenced (form_at hub.number.0 w.nodes) };
+
+    /// The oldest branch of a hub.
+    fn first_branch(&self, hub: Link) -> Option<Link>
+        ensures { (w : World) → stands self.now w → link_number result ≡ first_of (branches_of (form_at hub.number.0 w.nodes)) };
+
+    /// The branch that was made after this one.
+    fn next_branch(&self, branch: Link) -> Option<Link>
+        ensures { (w : World) (hub : ℕ) (front back : List ℕ) → stands self.now w → branches_of (form_at hub w.nodes) ≡ front ++ branch.number.0 ∷ back → link_number result ≡ first_of back };
+
+    /// The tree new takes the place of old under the owner of old, where there is one.
+    fn replace(&mut self, old: Link, new: Link)
+        requires root { is_taken self.old new.number.0 ≡ false }
+        requires built { new.number.0 < next self.old }
+        ensures stands { (w : World) → stands self.old w → IsLive w old.number.0 → IsReplaceable w old.number.0 new.number.0 → stands self.new (tree_replaced old.number.0 new.number.0 w) }
+        ensures root { is_taken self.old old.number.0 ≡ false → OnlyFalls (is_taken self.old) (is_taken self.new) }
+        ensures taken { RisesIn (new.number.0 ∷ []) (is_taken self.old) (is_taken self.new) }
+        ensures listed { OnlyFalls (is_listed self.old) (is_listed self.new) }
+        ensures plain { OnlyRises (is_plain self.old) (is_plain self.new) }
+        ensures next { next self.new ≡ next self.old }
+        ensures slots { slots self.new ≡ slots self.old };
+
+    /// The event of a live node, or of the wait, is armed.
+    fn arm(&mut self, way: Way, node: Link)
+        ensures stands { (w : World) → stands self.old w → IsEvent w node.number.0 → stands self.new (arm_listener (way_of way) (Some node.number.0) w) }
+        ensures taken { OnlyFalls (is_taken self.old) (is_taken self.new) }
+        ensures listed { OnlyFalls (is_listed self.old) (is_listed self.new) }
+        ensures plain { OnlyRises (is_plain self.old) (is_plain self.new) }
+        ensures next { next self.new ≡ next self.old }
+        ensures slots { slots self.new ≡ slots self.old };
+
+    /// An event leaves the queue, if it is there.
+    fn disarm(&mut self, node: Link)
+        ensures stands { (w : World) → stands self.old w → stands self.new (disarmed_node node.number.0 w) }
+        ensures taken { OnlyFalls (is_taken self.old) (is_taken self.new) }
+        ensures listed { OnlyFalls (is_listed self.old) (is_listed self.new) }
+        ensures plain { OnlyRises (is_plain self.old) (is_plain self.new) }
+        ensures next { next self.new ≡ next self.old }
+        ensures slots { slots self.new ≡ slots self.old };
+
+    /// The first event leaves the queue; its node, or number 0 for the wait.
+    fn take(&mut self) -> Option<Link>
+        ensures head { (w : World) → stands self.old w → link_number result ≡ head_of w.queue }
+        ensures stands { (w : World) → stands self.old w → stands self.new (taken_world w) }
+        ensures taken { OnlyFalls (is_taken self.old) (is_taken self.new) }
+        ensures listed { OnlyFalls (is_listed self.old) (is_listed self.new) }
+        ensures plain { OnlyRises (is_plain self.old) (is_plain self.new) }
+        ensures next { next self.new ≡ next self.old }
+        ensures slots { slots self.new ≡ slots self.old };
+
+    /// The first insertion point of the queue goes to the front.
+    fn rewind(&mut self)
+        ensures stands { (w : World) → stands self.old w → stands self.new (rewound_world w) }
+        ensures taken { OnlyFalls (is_taken self.old) (is_taken self.new) }
+        ensures listed { OnlyFalls (is_listed self.old) (is_listed self.new) }
+        ensures plain { OnlyRises (is_plain self.old) (is_plain self.new) }
+        ensures next { next self.new ≡ next self.old }
+        ensures slots { slots self.new ≡ slots self.old };
+
+    /// This event fires, or none.
+    fn set_firing(&mut self, firing: Option<Link>)
+        ensures stands { (w : World) → stands self.old w → stands self.new (record w { firing = link_number firing }) }
+        ensures taken { OnlyFalls (is_taken self.old) (is_taken self.new) }
+        ensures listed { OnlyFalls (is_listed self.old) (is_listed self.new) }
+        ensures plain { OnlyRises (is_plain self.old) (is_plain self.new) }
+        ensures next { next self.new ≡ next self.old }
+        ensures slots { slots self.new ≡ slots self.old };
+
+    /// A wait awaits this root, or none.
+    fn set_awaited(&mut self, awaited: Option<Link>)
+        ensures stands { (w : World) (a : Option Awaited) → stands self.old w → awaited_root a ≡ link_number awaited → stands self.new (record w { awaited = a }) }
+        ensures taken { OnlyFalls (is_taken self.old) (is_taken self.new) }
+        ensures listed { OnlyFalls (is_listed self.old) (is_listed self.new) }
+        ensures plain { OnlyRises (is_plain self.old) (is_plain self.new) }
+        ensures next { next self.new ≡ next self.old }
+        ensures slots { slots self.new ≡ slots self.old };
+
+    /// Names and lists don't matter.
+    ghost names_free: { (nodes : Self) (w v : World) → SameNodes w v → stands nodes w → stands nodes v };
+
+    /// A plain number is of no hub and no branch.
+    ghost plain_is: { (nodes : Self) (w : World) (n : ℕ) → stands nodes w → is_plain nodes n ≡ true → IsPlain (form_at n w.nodes) };
+
+    /// The next number of each world that it stands for.
+    ghost next_is: { (nodes : Self) (w : World) → stands nodes w → w.next ≡ next nodes };
+
+    /// The slots of each world that it stands for.
+    ghost slots_are: { (nodes : Self) (w : World) → stands nodes w → w.limits.slots ≡ slots nodes };
+}

@@ -1,0 +1,11 @@
+pub mod Answering
+pub mod Bare
+pub mod Climbed
+pub mod Composed
+pub mod Costs
+pub mod Entered
+pub mod Finished
+pub mod Left
+pub mod Sought
+pub mod Summed
+pub mod Unlisted

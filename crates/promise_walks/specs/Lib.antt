@@ -1,0 +1,7 @@
+pub mod Shapes
+pub mod Walks
+pub mod Stacks
+pub mod Sums
+pub mod Values
+pub mod Looks
+pub mod Climbs

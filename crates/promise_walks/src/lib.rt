@@ -1,0 +1,28 @@
+//! Freeing, searching and evaluating the trees of a loop, without recursion, over any keeper of nodes.
+#![tactic(auto)]
+
+mod closing;
+mod evaluating;
+mod freeing;
+mod guard;
+mod holding;
+mod joining;
+mod land;
+mod leavers;
+mod linking;
+mod looks;
+mod pending;
+mod pushing;
+mod shape;
+mod sums;
+
+pub use evaluating::evaluate;
+pub use freeing::{Frame, free_part, free_tree};
+pub use guard::Guard;
+pub use holding::holds;
+pub use land::{Given, Land, put_bare};
+pub use leavers::Leavers;
+pub use linking::evaluate_link;
+pub use pending::{Continuation, Pending};
+pub use shape::{Leaving, Parts};
+pub use sums::Sum;
