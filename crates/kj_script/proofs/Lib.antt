@@ -1,4 +1,5 @@
 pub mod Along
+pub mod Decided
 pub mod Logs
 pub mod Meanings
 pub mod Places

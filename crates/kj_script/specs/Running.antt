@@ -17,7 +17,8 @@ pub record Shows (l : Logged) (w : World) (text : List ℕ) : Type 0 where
 
 -- the line leads from one world and text to the next
 abbrev pub LineDone : Numbered → World → World → List ℕ → List ℕ → Type 0
-LineDone x old new before after = (l : Logged) → Shows l old before → Shows (log_line plain_setting x.number x.line l) new after
+LineDone x old new before after =
+    (l : Logged) → Shows l old before → Shows (log_line plain_setting x.number x.line l) new after
 
 -- the closing of the loop ends the text
 abbrev pub ClosingDone : World → List ℕ → List ℕ → Type 0

@@ -17,7 +17,8 @@ step_word (Some step) = decimal step.0
 -- the words of a command
 abbrev pub command_words : Command → List (List ℕ)
 command_words (Later name) = codes "later" ∷ decimal name.0 ∷ []
-command_words (Then name source value error) = codes "then" ∷ decimal name.0 ∷ decimal source.0 ∷ step_word value ∷ step_word error ∷ []
+command_words (Then name source value error) =
+    codes "then" ∷ decimal name.0 ∷ decimal source.0 ∷ step_word value ∷ step_word error ∷ []
 command_words (Detach source) = codes "detach" ∷ decimal source.0 ∷ []
 
 -- the words of a line
@@ -33,7 +34,8 @@ StepFits (Some step) = step.0 < 2 ^ 32
 -- the numbers of a command are below 2 ^ 32
 abbrev pub CommandFits : Command → Type 0
 CommandFits (Later name) = name.0 < 2 ^ 32
-CommandFits (Then name source value error) = (name.0 < 2 ^ 32) × (source.0 < 2 ^ 32) × StepFits value × StepFits error
+CommandFits (Then name source value error) =
+    (name.0 < 2 ^ 32) × (source.0 < 2 ^ 32) × StepFits value × StepFits error
 CommandFits (Detach source) = source.0 < 2 ^ 32
 
 -- the numbers of a line are below 2 ^ 32
@@ -45,7 +47,8 @@ LineFits Turn = Unit {0}
 abbrev pub words_of : List ℕ → List (List ℕ)
 words_of text = slice_split (λ c. c == 32) text
 
--- what stands between line ends; a text that ends with a line end has an empty line behind it, which means nothing
+-- what stands between line ends; a text that ends with a line end has an empty line behind it,
+-- which means nothing
 abbrev pub lines_of : List ℕ → List (List ℕ)
 lines_of text = slice_split (λ c. c == 10) text
 

@@ -18,4 +18,6 @@ told_by steps = told_if steps.whole steps.items.items
 
 -- the text grew by the lines of all that was told
 abbrev pub DrainsInto : Option (List Item) → List ℕ → List ℕ → Type 0
-DrainsInto told old new = (items : List Told) × (told ≡ Some (map item_of items)) × (new ≡ old ++ log_text (map ToldLine (map item_of items)))
+DrainsInto told old new =
+    (items : List Told) × (told ≡ Some (map item_of items))
+    × (new ≡ old ++ log_text (map ToldLine (map item_of items)))

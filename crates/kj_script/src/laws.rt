@@ -1,5 +1,5 @@
 //! Laws of the text of scripts.
-ghost use Rattle.std.specs.Prelude.{◌≡◌, List, ℕ, Option};
+ghost use Rattle.std.specs.Prelude.{◌≡◌, ◌⊎◌, List, ℕ, Option};
 ghost use Rattle.kj_base.specs.declared.script.Line.{Line};
 ghost use Rattle.kj_base.specs.declared.script.Script.{Script};
 ghost use Rattle.kj_script.specs.ScriptText.{IsScriptText, Means};
@@ -8,4 +8,11 @@ ghost use Rattle.kj_script.specs.ScriptText.{IsScriptText, Means};
 pub fn one_script()
     ensures line { (text : List ℕ) (a b : Option Line) → Means text a → Means text b → a ≡ b }
     ensures script { (text : List ℕ) (a b : Script) → IsScriptText text a → IsScriptText text b → a ≡ b }
+{}
+
+/// Octets are the text of a script, or of none.
+pub fn some_script()
+    ensures { (octets : List ℕ)
+        → ((script : Script) × IsScriptText octets script)
+        ⊎ ((script : Script) → IsScriptText octets script → ⊥) }
 {}

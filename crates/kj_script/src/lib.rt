@@ -11,7 +11,7 @@ mod run;
 mod steps;
 
 pub use kj_base::{Bytes, Line, Lines, NumberedLine, Script};
-pub use laws::one_script;
+pub use laws::{one_script, some_script};
 pub use reader::{ReadRefused, read};
 pub use run::run_script;
 pub use steps::ScriptSteps;

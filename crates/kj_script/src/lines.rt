@@ -9,7 +9,8 @@ use kj_base::{Command, Line, is_word};
 /// The line that these words are.
 pub fn line_of(words: &[&[u8]]) -> Option<Line>
     ensures found { IfSome result (λ line. LineFits line × (map (λ w. w.now) words.now ≡ line_words line)) }
-    ensures none { IfNone result ((line : Line) → LineFits line → map (λ w. w.now) words.now ≡ line_words line → ⊥) }
+    ensures none { IfNone result
+        ((line : Line) → LineFits line → map (λ w. w.now) words.now ≡ line_words line → ⊥) }
 {
     match words {
         [] => None,
@@ -22,6 +23,7 @@ pub fn line_of(words: &[&[u8]]) -> Option<Line>
     }
 }
 
+// The line that one word is.
 fn one_word(word: &[u8]) -> Option<Line>
     ensures found { IfSome result (λ line. LineFits line × (word.now ∷ [] ≡ line_words line)) }
     ensures none { IfNone result ((line : Line) → LineFits line → word.now ∷ [] ≡ line_words line → ⊥) }
@@ -32,9 +34,11 @@ fn one_word(word: &[u8]) -> Option<Line>
     None
 }
 
+// The line that two words are.
 fn two_words(word: &[u8], a: &[u8]) -> Option<Line>
     ensures found { IfSome result (λ line. LineFits line × (word.now ∷ a.now ∷ [] ≡ line_words line)) }
-    ensures none { IfNone result ((line : Line) → LineFits line → word.now ∷ a.now ∷ [] ≡ line_words line → ⊥) }
+    ensures none { IfNone result
+        ((line : Line) → LineFits line → word.now ∷ a.now ∷ [] ≡ line_words line → ⊥) }
 {
     let name = read_name(a)?;
     if is_word(word, b"later") {
@@ -46,9 +50,12 @@ fn two_words(word: &[u8], a: &[u8]) -> Option<Line>
     None
 }
 
+// The line that five words are.
 fn five_words(word: &[u8], a: &[u8], b: &[u8], value: &[u8], error: &[u8]) -> Option<Line>
-    ensures found { IfSome result (λ line. LineFits line × (word.now ∷ a.now ∷ b.now ∷ value.now ∷ error.now ∷ [] ≡ line_words line)) }
-    ensures none { IfNone result ((line : Line) → LineFits line → word.now ∷ a.now ∷ b.now ∷ value.now ∷ error.now ∷ [] ≡ line_words line → ⊥) }
+    ensures found { IfSome result (λ line. LineFits line
+        × (word.now ∷ a.now ∷ b.now ∷ value.now ∷ error.now ∷ [] ≡ line_words line)) }
+    ensures none { IfNone result ((line : Line) → LineFits line
+        → word.now ∷ a.now ∷ b.now ∷ value.now ∷ error.now ∷ [] ≡ line_words line → ⊥) }
 {
     if !is_word(word, b"then") {
         return None;

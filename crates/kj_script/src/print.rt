@@ -6,7 +6,7 @@ ghost use Rattle.kj_model.specs.Cases.{refused_of};
 use itoa::Buffer;
 use kj_base::{Bytes, Kind, NoMemory, NodeId, Outcome, Refused, StepId};
 
-/// A number after a space. Here as below an `Err` may leave a part of the text.
+// A number after a space. Here as below an `Err` may leave a part of the text.
 fn print_number(text: &mut Bytes, n: u64) -> Result<(), NoMemory>
     ensures { OnOk result (text.new ≡ text.old ++ spaced n) }
 {
@@ -15,6 +15,7 @@ fn print_number(text: &mut Bytes, n: u64) -> Result<(), NoMemory>
     text.extend(buffer.format(n).as_bytes())
 }
 
+// The word of a kind.
 fn kind_word(kind: Kind) -> &'static [u8]
     ensures { result.now ≡ kind_text kind }
 {
@@ -26,6 +27,7 @@ fn kind_word(kind: Kind) -> &'static [u8]
     }
 }
 
+// Each word after a space.
 fn print_words(text: &mut Bytes, words: &[u64]) -> Result<(), NoMemory>
     ensures { OnOk result (text.new ≡ text.old ++ all_spaced words.now) }
 {
@@ -35,6 +37,7 @@ fn print_words(text: &mut Bytes, words: &[u64]) -> Result<(), NoMemory>
     Ok(())
 }
 
+// An outcome in words.
 fn print_outcome(text: &mut Bytes, outcome: &Outcome) -> Result<(), NoMemory>
     ensures { OnOk result (text.new ≡ text.old ++ outcome_text outcome.now) }
 {
@@ -58,7 +61,9 @@ pub fn print_run(
     step: StepId,
     input: &Outcome,
 ) -> Result<(), NoMemory>
-    ensures { OnOk result (text.new ≡ text.old ++ (codes "run" ++ spaced node.0 ++ spaced step.0 ++ codes " " ++ outcome_text input.now) ++ 10 ∷ []) }
+    ensures { OnOk result (text.new ≡ text.old
+        ++ (codes "run" ++ spaced node.0 ++ spaced step.0 ++ codes " " ++ outcome_text input.now)
+        ++ 10 ∷ []) }
 {
     text.extend(b"run")?;
     print_number(text, node.0)?;
@@ -77,6 +82,7 @@ pub fn print_free(text: &mut Bytes, node: NodeId) -> Result<(), NoMemory>
     text.push(b'\n')
 }
 
+// Why a line was refused, after its number.
 fn print_cause(text: &mut Bytes, refused: Refused) -> Result<(), NoMemory>
     ensures { OnOk result (text.new ≡ text.old ++ refused_text (refused_of refused)) }
 {
@@ -95,7 +101,8 @@ fn print_cause(text: &mut Bytes, refused: Refused) -> Result<(), NoMemory>
 
 /// The line of a refusal, with its end.
 pub fn print_refused(text: &mut Bytes, number: u32, refused: Refused) -> Result<(), NoMemory>
-    ensures { OnOk result (text.new ≡ text.old ++ (codes "refused" ++ spaced number ++ refused_text (refused_of refused)) ++ 10 ∷ []) }
+    ensures { OnOk result (text.new ≡ text.old
+        ++ (codes "refused" ++ spaced number ++ refused_text (refused_of refused)) ++ 10 ∷ []) }
 {
     text.extend(b"refused")?;
     print_number(text, u64::from(number))?;

@@ -44,7 +44,8 @@ impl From<NoMemory> for ReadRefused {
 pub fn read(alloc: Global, octets: &[u8]) -> Result<Script, ReadRefused>
     requires { length octets.now < 2 ^ 32 }
     ensures script { IfOk result (λ script. IsScriptText octets.now script) }
-    ensures not_built { result ≡ Err ReadRefused.NotBuilt → (script : Script) → IsScriptText octets.now script → ⊥ }
+    ensures not_built { result ≡ Err ReadRefused.NotBuilt
+        → (script : Script) → IsScriptText octets.now script → ⊥ }
 {
     let texts = lines_of(alloc, octets)?;
     let mut lines = Lines::new(alloc);
@@ -58,7 +59,7 @@ pub fn read(alloc: Global, octets: &[u8]) -> Result<Script, ReadRefused>
     Ok(Script { lines })
 }
 
-/// The line at this place, from 0, where it means something.
+// The line at this place, from 0, where it means something.
 fn add_line(lines: &mut Lines, index: usize, meaning: Option<Line>) -> Result<(), NoMemory>
     requires { IsSome meaning → index + 1 < 2 ^ 32 }
     ensures { OnOk result (lines.new ≡ lines.old ++ numbered_from (index + 1) (meaning ∷ [])) }
@@ -70,11 +71,12 @@ fn add_line(lines: &mut Lines, index: usize, meaning: Option<Line>) -> Result<()
     Ok(())
 }
 
-/// What one line means, its end left out.
+// What one line means, its end left out.
 fn read_line(alloc: Global, text: &[u8]) -> Result<Option<Line>, ReadRefused>
     ensures meaning { IfOk result (λ meaning. Means text.now meaning) }
     ensures some { IfOk result (λ meaning. IsSome meaning → 0 < length text.now) }
-    ensures not_built { result ≡ Err ReadRefused.NotBuilt → (meaning : Option Line) → Means text.now meaning → ⊥ }
+    ensures not_built { result ≡ Err ReadRefused.NotBuilt
+        → (meaning : Option Line) → Means text.now meaning → ⊥ }
 {
     if text.is_empty() {
         return Ok(None);

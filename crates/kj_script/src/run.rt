@@ -10,14 +10,14 @@ ghost use Rattle.kj_script.specs.Told.{told_by};
 
 use crate::print::{print_idle, print_refused};
 use crate::steps::ScriptSteps;
-use kj_base::{Bytes, Command, Limits, Line, NoMemory, NumberedLine, Script};
+use kj_base::{Bytes, Command, Limits, Line, NAMES, NoMemory, NumberedLine, SLOTS, Script};
 use loop_core::{Loop, Turned};
 use std::alloc::Global;
 
-/// The slots and names of a loop that runs a script.
+// The slots and names of a loop that runs a script.
 const LIMITS: Limits = Limits {
-    slots: 65_536,
-    names: 4_096,
+    slots: SLOTS,
+    names: NAMES,
 };
 
 /// Runs a script from its first line to the closing of its loop, and gives its log.
@@ -34,7 +34,7 @@ pub fn run_script(alloc: Global, script: &Script) -> Result<Bytes, NoMemory>
     Ok(text)
 }
 
-/// Does one line, and prints what happened.
+// Does one line, and prints what happened.
 fn do_line(
     core: &mut Loop,
     steps: &mut ScriptSteps,
@@ -53,6 +53,7 @@ fn do_line(
     }
 }
 
+// Asks a command of the loop, and prints its refusal.
 fn do_command(
     core: &mut Loop,
     steps: &mut ScriptSteps,
@@ -62,7 +63,8 @@ fn do_command(
 ) -> Result<(), NoMemory>
     requires running { core.old.stopped ≡ false }
     requires told { told_by steps.old ≡ Some [] }
-    ensures line { OnOk result (LineDone (record { number = number; line = Do (command_of command) }) core.old core.new text.old text.new) }
+    ensures line { OnOk result (LineDone (record { number = number; line = Do (command_of command) })
+        core.old core.new text.old text.new) }
     ensures told { OnOk result (told_by steps.new ≡ Some []) }
     ensures running { OnOk result (core.new.stopped ≡ false) }
 {
@@ -72,6 +74,7 @@ fn do_command(
     }
 }
 
+// Makes one turn, and prints what it told; the number of the line is for the contract alone.
 fn do_turn(
     core: &mut Loop,
     steps: &mut ScriptSteps,
@@ -80,7 +83,8 @@ fn do_turn(
 ) -> Result<(), NoMemory>
     requires running { core.old.stopped ≡ false }
     requires told { told_by steps.old ≡ Some [] }
-    ensures line { OnOk result (LineDone (record { number = _number; line = Turn }) core.old core.new text.old text.new) }
+    ensures line { OnOk result (LineDone (record { number = _number; line = Turn })
+        core.old core.new text.old text.new) }
     ensures told { OnOk result (told_by steps.new ≡ Some []) }
     ensures running { OnOk result (core.new.stopped ≡ false) }
 {
@@ -94,6 +98,7 @@ fn do_turn(
     }
 }
 
+// Closes the loop, and prints what was freed.
 fn close(core: Loop, steps: &mut ScriptSteps, text: &mut Bytes) -> Result<(), NoMemory>
     requires { told_by steps.old ≡ Some [] }
     ensures { OnOk result (ClosingDone core text.old text.new) }

@@ -24,7 +24,8 @@ fn print_told(text: &mut Bytes, told: &Told) -> Result<(), NoMemory>
     }
 }
 
-/// The steps of a script, which have no bodies: each run gives its input. It keeps what was told since the last printing.
+/// The steps of a script, which have no bodies: each run gives its input. It keeps what was told
+/// since the last printing.
 #[derive(Drop)]
 pub struct ScriptSteps {
     items: Vec<Told>,
@@ -71,6 +72,9 @@ impl Steps for ScriptSteps {
     ghost use Rattle.kj_script.specs.Told.{told_by};
 
     ghost told = { λ s. told_by s };
+
+    // A run gives its input and takes no memory, so none finds a lack of it.
+    ghost lacks = { λ _. 0 };
 
     fn run(&mut self, node: NodeId, step: StepId, input: &Outcome) -> Result<Action, NoMemory> {
         self.keep(Told::Ran(node, step, input.copy()));

@@ -23,6 +23,7 @@ fn close_tree<S: Steps>(engine: &mut Engine, root: u64, steps: &mut S, freed: &m
     ensures listed { freed.new.items ≡ freed.old.items ++ map node_id (reverse (tree_path (engine.old.limits.slots + 1) root engine.old.nodes.items)) }
     ensures room { vec_capacity freed.old ≤ vec_capacity freed.new }
     ensures few { HasFreed engine.old.limits.slots engine.new.nodes.items freed.new.items }
+    ensures lacks { S.lacks steps.new ≡ S.lacks steps.old }
 {
     let depth = engine.depth();
     go_down(&engine.nodes, &mut engine.path, depth, root);
@@ -71,7 +72,8 @@ fn close_roots<S: Steps>(engine: &mut Engine, roots: &[u64], steps: &mut S, free
     requires kept { IsKept engine.old }
     requires empty { freed.old.items ≡ [] }
     requires room { engine.old.limits.slots ≤ vec_capacity freed.old }
-    ensures { Closed (closed_nodes (engine.old.limits.slots + 1) roots.now engine.old.nodes.items) freed.new.items (S.told steps.old) (S.told steps.new) }
+    ensures closed { Closed (closed_nodes (engine.old.limits.slots + 1) roots.now engine.old.nodes.items) freed.new.items (S.told steps.old) (S.told steps.new) }
+    ensures lacks { S.lacks steps.new ≡ S.lacks steps.old }
 {
     for root in roots {
         close_tree(engine, *root, steps, freed);
@@ -90,7 +92,8 @@ pub(crate) fn close<S: Steps>(
     requires room { engine.old.limits.slots ≤ vec_capacity freed.old }
     requires no_roots { roots.old.items ≡ [] }
     requires roots { engine.old.limits.names + engine.old.limits.slots ≤ vec_capacity roots.old }
-    ensures { Closed (closed_nodes (engine.old.limits.slots + 1) (closing_roots engine.old) engine.old.nodes.items) freed.new.items (S.told steps.old) (S.told steps.new) }
+    ensures closed { Closed (closed_nodes (engine.old.limits.slots + 1) (closing_roots engine.old) engine.old.nodes.items) freed.new.items (S.told steps.old) (S.told steps.new) }
+    ensures lacks { S.lacks steps.new ≡ S.lacks steps.old }
 {
     list_names(&engine.names, roots);
     list_tasks(&engine.nodes, roots);

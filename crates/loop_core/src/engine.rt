@@ -53,6 +53,7 @@ pub(crate) fn drop_node<S: Steps>(engine: &mut Engine, n: u64, steps: &mut S)
     ensures path { engine.new.path ≡ engine.old.path }
     ensures kept { IsKept engine.new }
     ensures told { Tells (S.told steps.old) (Free n ∷ []) (S.told steps.new) }
+    ensures lacks { S.lacks steps.new ≡ S.lacks steps.old }
 {
     disarm(&mut engine.order, n);
     remove_node(&mut engine.nodes, n);
@@ -62,7 +63,8 @@ pub(crate) fn drop_node<S: Steps>(engine: &mut Engine, n: u64, steps: &mut S)
 /// A tree goes, dependencies first.
 pub(crate) fn free_tree<S: Steps>(engine: &mut Engine, root: u64, steps: &mut S)
     requires { IsKept engine.old }
-    ensures { Falls (reverse (tree_path (engine.old.limits.slots + 1) root engine.old.nodes.items)) engine.old engine.new (S.told steps.old) (S.told steps.new) }
+    ensures falls { Falls (reverse (tree_path (engine.old.limits.slots + 1) root engine.old.nodes.items)) engine.old engine.new (S.told steps.old) (S.told steps.new) }
+    ensures lacks { S.lacks steps.new ≡ S.lacks steps.old }
 {
     let depth = engine.depth();
     go_down(&engine.nodes, &mut engine.path, depth, root);

@@ -1,6 +1,7 @@
 //! Running steps, and evaluating a tree.
 ghost use Rattle.std.specs.Prelude.{◌≡◌, ◌<◌, ◌≤◌, Some, None, true, false, is_err};
 ghost use Rattle.kj_base.specs.Commands.{action_of};
+ghost use Rattle.kj_base.specs.Counts.{HasLacked};
 ghost use Rattle.kj_model.specs.Outcomes.{failed};
 ghost use Rattle.kj_model.specs.Value.{chosen, value};
 ghost use Rattle.loop_core.specs.declared.nodes.Form.{Form};
@@ -67,6 +68,7 @@ fn run_step<S: Steps>(
     requires running { engine.old.stopped ≡ false }
     ensures gives { Gives (step_run n (Some step) input) (world_of engine.old) (world_of engine.new) (S.told steps.old) (S.told steps.new) result }
     ensures stopped { engine.new.stopped ≡ is_err result }
+    ensures lacks { HasLacked (is_err result) (S.lacks steps.old) (S.lacks steps.new) }
     ensures others { SameFrames engine.old engine.new }
     ensures roots { KeepsRoots engine.old engine.new }
     ensures kept { IsKept engine.new }
@@ -102,6 +104,7 @@ fn pass_step<S: Steps>(
     requires running { engine.old.stopped ≡ false }
     ensures gives { Gives (step_run n step input) (world_of engine.old) (world_of engine.new) (S.told steps.old) (S.told steps.new) result }
     ensures stopped { engine.new.stopped ≡ is_err result }
+    ensures lacks { HasLacked (is_err result) (S.lacks steps.old) (S.lacks steps.new) }
     ensures others { SameFrames engine.old engine.new }
     ensures roots { KeepsRoots engine.old engine.new }
     ensures kept { IsKept engine.new }
@@ -141,6 +144,7 @@ fn close_frame<S: Steps>(
     requires fits { FrameFits engine.old.nodes.items engine.old.next frame }
     ensures gives { Gives (λ setting s. rise setting frame (s, Some outcome)) (world_of engine.old) (world_of engine.new) (S.told steps.old) (S.told steps.new) result }
     ensures stopped { engine.new.stopped ≡ is_err result }
+    ensures lacks { HasLacked (is_err result) (S.lacks steps.old) (S.lacks steps.new) }
     ensures others { SameFrames engine.old engine.new }
     ensures roots { KeepsRoots engine.old engine.new }
     ensures kept { IsKept engine.new }
@@ -162,6 +166,7 @@ pub(crate) fn evaluate<S: Steps>(
     requires root { RootFits engine.old.nodes.items engine.old.next root }
     ensures gives { Gives (λ setting. value setting root) (world_of engine.old) (world_of engine.new) (S.told steps.old) (S.told steps.new) result }
     ensures stopped { engine.new.stopped ≡ is_err result }
+    ensures lacks { HasLacked (is_err result) (S.lacks steps.old) (S.lacks steps.new) }
     ensures others { SameFixed engine.old engine.new }
     ensures roots { KeepsRoots engine.old engine.new }
     ensures kept { IsKept engine.new }

@@ -1,6 +1,7 @@
 //! The loop as a host sees it.
 ghost use Rattle.std.specs.Prelude.{◌≡◌, ◌≤◌, ◌%◌, ◌++◌, List, IfOk, false};
 ghost use Rattle.kj_base.specs.Commands.{command_of};
+ghost use Rattle.kj_base.specs.Counts.{HasLacked};
 ghost use Rattle.kj_base.specs.Record.{Item, Tells};
 ghost use Rattle.kj_model.specs.World.{new_world, State};
 ghost use Rattle.kj_model.specs.Calls.{close};
@@ -8,7 +9,7 @@ ghost use Rattle.loop_core.specs.Applied.{IsApplied, refusal_in};
 ghost use Rattle.loop_core.specs.Closing.{frees_of};
 ghost use Rattle.loop_core.specs.Quiet.{IsQuiet};
 ghost use Rattle.loop_core.specs.Seen.{Seen};
-ghost use Rattle.loop_core.specs.Turns.{Turns, is_stopped};
+ghost use Rattle.loop_core.specs.Turns.{Turns, is_stopped, lacked_memory};
 
 use crate::closing::close;
 use crate::commands::apply_command;
@@ -80,6 +81,7 @@ impl Loop {
         requires running { self.old.stopped ≡ false }
         ensures applied { IsApplied (command_of command) self.old self.new (refusal_in result) }
         ensures told { S.told _steps.new ≡ S.told _steps.old }
+        ensures lacks { S.lacks _steps.new ≡ S.lacks _steps.old }
         ensures running { self.new.stopped ≡ false }
         ensures quiet { IsQuiet self.new }
     {
@@ -90,6 +92,7 @@ impl Loop {
     pub fn turn<S: Steps>(&mut self, steps: &mut S) -> Turned
         ensures turns { Turns self.old self.new (S.told steps.old) (S.told steps.new) result }
         ensures stopped { self.new.stopped ≡ is_stopped result }
+        ensures lacks { HasLacked (lacked_memory result) (S.lacks steps.old) (S.lacks steps.new) }
         ensures quiet { IsQuiet self.new }
     {
         turn(&mut self.engine, steps)
@@ -98,6 +101,7 @@ impl Loop {
     /// Everything goes; the answer is the nodes in the order in which they were freed. Takes no memory.
     pub fn close<S: Steps>(self, steps: &mut S) -> Vec<NodeId>
         ensures told { Tells (S.told steps.old) (frees_of result.items) (S.told steps.new) }
+        ensures lacks { S.lacks steps.new ≡ S.lacks steps.old }
         ensures closed { (t : List Item) (s : State) → Seen self t s → (close s).past ≡ t ++ frees_of result.items }
     {
         let Loop {

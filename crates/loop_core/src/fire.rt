@@ -1,5 +1,6 @@
 //! Turns.
 ghost use Rattle.std.specs.Prelude.{◌≡◌, Some, None, false};
+ghost use Rattle.kj_base.specs.Counts.{HasLacked};
 ghost use Rattle.kj_model.specs.Fire.{fire, fire_form, task_valued};
 ghost use Rattle.kj_model.specs.Nodes.{form_at};
 ghost use Rattle.kj_model.specs.Value.{value};
@@ -7,7 +8,7 @@ ghost use Rattle.loop_core.specs.Nodes.{node_found};
 ghost use Rattle.loop_core.specs.Walks.{task_in};
 ghost use Rattle.loop_core.specs.Engine.{world_of, SameFixed};
 ghost use Rattle.loop_core.specs.Kept.{IsKept, IsRising, RootFits};
-ghost use Rattle.loop_core.specs.Turns.{Does, Turns, is_stopped, valued_task};
+ghost use Rattle.loop_core.specs.Turns.{Does, Turns, is_stopped, lacked_memory, valued_task};
 
 use crate::engine::{Engine, drop_node, free_tree};
 use crate::evaluate::evaluate;
@@ -35,6 +36,7 @@ fn run_task<S: Steps>(engine: &mut Engine, n: u64, tree: u64, steps: &mut S)
     requires running { engine.old.stopped ≡ false }
     requires root { RootFits engine.old.nodes.items engine.old.next tree }
     ensures does { Does (valued_task n tree) (world_of engine.old) (world_of engine.new) (S.told steps.old) (S.told steps.new) engine.new.stopped }
+    ensures lacks { HasLacked engine.new.stopped (S.lacks steps.old) (S.lacks steps.new) }
     ensures others { SameFixed engine.old engine.new }
     ensures kept { IsKept engine.new }
 {
@@ -50,6 +52,7 @@ fn fire_node<S: Steps>(engine: &mut Engine, n: u64, steps: &mut S)
     requires kept { IsKept engine.old }
     requires running { engine.old.stopped ≡ false }
     ensures does { Does (λ setting s. fire_form setting n (form_at n s.world.nodes) s) (world_of engine.old) (world_of engine.new) (S.told steps.old) (S.told steps.new) engine.new.stopped }
+    ensures lacks { HasLacked engine.new.stopped (S.lacks steps.old) (S.lacks steps.new) }
     ensures limits { engine.new.limits ≡ engine.old.limits }
     ensures kept { IsKept engine.new }
 {
@@ -64,6 +67,7 @@ fn fire<S: Steps>(engine: &mut Engine, n: u64, steps: &mut S)
     requires kept { IsKept engine.old }
     requires running { engine.old.stopped ≡ false }
     ensures does { Does (λ setting. fire setting n) (world_of engine.old) (world_of engine.new) (S.told steps.old) (S.told steps.new) engine.new.stopped }
+    ensures lacks { HasLacked engine.new.stopped (S.lacks steps.old) (S.lacks steps.new) }
     ensures limits { engine.new.limits ≡ engine.old.limits }
     ensures kept { IsKept engine.new }
 {
@@ -76,6 +80,7 @@ pub(crate) fn turn<S: Steps>(engine: &mut Engine, steps: &mut S) -> Turned
     requires kept { IsKept engine.old }
     ensures turns { Turns (world_of engine.old) (world_of engine.new) (S.told steps.old) (S.told steps.new) result }
     ensures stopped { engine.new.stopped ≡ is_stopped result }
+    ensures lacks { HasLacked (lacked_memory result) (S.lacks steps.old) (S.lacks steps.new) }
     ensures limits { engine.new.limits ≡ engine.old.limits }
     ensures kept { IsKept engine.new }
 {

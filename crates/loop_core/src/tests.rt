@@ -14,13 +14,17 @@ use std::test::Fail;
 #[derive(Drop)]
 struct Teller {
     told: Vec<u64>,
+    lacks: u64,
 }
 
 impl Steps for Teller {
     ghost told = { λ _. None };
 
+    ghost lacks = { λ s. s.lacks };
+
     fn run(&mut self, node: NodeId, step: StepId, _input: &Outcome) -> Result<Action, NoMemory> {
         if step.0 == 9 {
+            self.lacks = self.lacks.saturating_add(1);
             return Err(NoMemory);
         }
         let _ = self.told.push(node.0);
@@ -65,6 +69,7 @@ fn continuations_run_after_their_dependencies_went(rt: HostRuntime) -> Result<()
     let mut events = Loop::new(rt.alloc(), limits)?;
     let mut steps = Teller {
         told: Vec::with_capacity(rt.alloc(), 16)?,
+        lacks: 0,
     };
     assert_eq!(rt; events.apply(later(1), &mut steps), Ok(()));
     assert_eq!(rt;
@@ -99,6 +104,7 @@ fn want_of_memory_stops_the_loop(rt: HostRuntime) -> Result<(), Fail> {
     let mut events = Loop::new(rt.alloc(), limits)?;
     let mut steps = Teller {
         told: Vec::with_capacity(rt.alloc(), 16)?,
+        lacks: 0,
     };
     assert_eq!(rt; events.apply(later(1), &mut steps), Ok(()));
     assert_eq!(rt; events.apply(then(2, 1, 9, 9), &mut steps), Ok(()));

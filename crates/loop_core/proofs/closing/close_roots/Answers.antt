@@ -1,4 +1,4 @@
-use Rattle.std.proofs.Common.{arith, ap}
+use Rattle.std.proofs.Common.{arith, ap, ◌∙◌}
 use Rattle.loop_core.proofs.Closes.{closing_at}
 use Rattle.loop_core.proofs.closing.close_roots.Goals as goal
 
@@ -13,4 +13,5 @@ loop-root-preserved g c =
           c.loop-root-test.true before.closing done.falls done.listed;
       few = record { few = omega (arith, few, slots) };
       room = omega (arith, done.room, before.room);
+      lacks = done.lacks ∙ before.lacks;
     }

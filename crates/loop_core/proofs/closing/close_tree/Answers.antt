@@ -15,6 +15,7 @@ falling-init g c =
           (c.go_down.ensures.path ∙ ap (λ k. tree_path k c.args.root old.nodes.items) c.depth-depth.ensures)
           c.requires.few;
       room = omega arith;
+      lacks = refl;
     }
 
 pub put_last-requires : goal.put_last-requires
@@ -29,4 +30,5 @@ falling-preserved g c =
       closes = closes_on c.in-Some.n _ c.args.engine.now c.falling.engine (record c.falling.engine { path = c.pop.new.self }) c.drop_node.new.engine _ c.falling.freed.items c.put_last.new.items.items _ _ _
           c.falling.invariant.closes c.in-Some.ensures.items refl done.nodes done.queue done.others done.path done.kept done.told c.put_last.ensures.items;
       room = omega (arith, c.put_last.ensures.capacity, c.falling.invariant.room);
+      lacks = done.lacks ∙ c.falling.invariant.lacks;
     }

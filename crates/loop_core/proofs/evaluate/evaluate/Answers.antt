@@ -20,6 +20,7 @@ rising-init g c =
       others = refl;
       roots = λ root h. h;
       fits = subst (λ (l : List Frame). FramesFit old.nodes.items old.next l) (sym frames) (frames_fit old.nodes.items old.next (old.limits.slots + 1) c.args.root kept.trees c.requires.root);
+      lacks = refl;
       rising = rw c.new.ensures (rising_from (frames_found (old.limits.slots + 1) c.args.root old.nodes.items) c.open_frames.new.frames.items (world_of old) _ frames);
     }
 
@@ -53,6 +54,7 @@ rising-preserved g c =
           ∙ ap (λ v. record old { order = new.order; nodes = new.nodes; names = new.names; next = new.next; stopped = new.stopped; path = new.path; frames = v }) (sym frames);
       roots = λ root h. done.roots root (before.roots root h);
       fits = subst (λ (l : List Frame). FramesFit new.nodes.items new.next l) (sym left) (frames_stay now new c.pop.new.self.items done.roots (all_front (FrameFits now.nodes.items now.next) c.pop.new.self.items (c.in-Some.frame ∷ []) all));
+      lacks = done.lacks ∙ before.lacks;
       rising = rising_to _ c.pop.new.self.items new.frames.items c.in-Some.frame c.rising.engine.frames.items (world_of old) (world_of c.rising.engine) (world_of new) _ _ _ c.rising.outcome c.in-Ok.outcome before.rising c.in-Some.ensures.items done.gives left;
     }
 

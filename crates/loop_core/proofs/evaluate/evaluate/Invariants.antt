@@ -14,6 +14,7 @@ invariant-rising g l =
       others : SameFixed old l.engine;
       roots : KeepsRoots old l.engine;
       fits : FramesFit l.engine.nodes.items l.engine.next l.engine.frames.items;
+      lacks : g.S.Steps.lacks l.steps ≡ g.S.Steps.lacks l.fn.steps;
       rising : Rising (frames_found (old.limits.slots + 1) l.fn.root old.nodes.items) l.engine.frames.items (world_of old) (world_of l.engine) (g.S.Steps.told l.fn.steps) (g.S.Steps.told l.steps) l.outcome;
     }
 

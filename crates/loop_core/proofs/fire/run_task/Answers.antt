@@ -15,5 +15,5 @@ returns-clause-does g c =
     let outcome = outcome_of c.evaluate.result gave in
     let went = c.drop_node.ensures in
     task_ends c.args.n c.args.tree c.args.engine.now c.evaluate.new.engine c.free_tree.new.engine c.drop_node.new.engine _ _ _ _ outcome.0
-    (ap (λ (e : Engine). e.stopped) went.others ∙ ap (λ (e : Engine). e.stopped) c.free_tree.ensures.others ∙ c.evaluate.ensures.stopped ∙ gave)
-    (rw outcome.1 at c.evaluate.ensures.gives) c.evaluate.ensures.kept (c.evaluate.ensures.roots c.args.tree c.requires.root) c.free_tree.ensures went.nodes went.queue went.others went.told
+    (ap (λ (e : Engine). e.stopped) went.others ∙ ap (λ (e : Engine). e.stopped) c.free_tree.ensures.falls.others ∙ c.evaluate.ensures.stopped ∙ gave)
+    (rw outcome.1 at c.evaluate.ensures.gives) c.evaluate.ensures.kept (c.evaluate.ensures.roots c.args.tree c.requires.root) c.free_tree.ensures.falls went.nodes went.queue went.others went.told
