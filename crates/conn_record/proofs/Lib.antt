@@ -1,3 +1,4 @@
 pub mod NumberLemmas
 pub mod RecordLemmas
 pub mod GeneratorLemmas
+pub mod Decided

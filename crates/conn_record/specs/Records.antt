@@ -1,6 +1,7 @@
 -- The texts of recordings and replies.
 use Rattle.std.specs.Prelude.{◌≡◌, ℕ, ◌≤◌, ◌⊎◌, List, [], ◌∷◌, ◌++◌, length, codes, decimal}
 use Rattle.std.specs.List.{flat_map}
+use Rattle.conn_record.specs.declared.read.TheConstants.{MAX_CONNS}
 
 -- a connection: the number of its octets, and the octets
 abbrev pub conn_text : List ℕ → List ℕ
@@ -21,7 +22,7 @@ HasNoConn bytes = (conn rest : List ℕ) → bytes ≡ conn_text conn ++ rest �
 
 -- the bytes are the text of a recording of these connections
 pub record IsRecording (bytes : List ℕ) (conns : List (List ℕ)) : Type 0 where
-  pub few : length conns ≤ 4096
+  pub few : length conns ≤ MAX_CONNS
   pub text : bytes ≡ record_text conns
 
 -- the bytes are the text of no recording
@@ -30,7 +31,7 @@ IsNoRecording bytes = (conns : List (List ℕ)) → IsRecording bytes conns → 
 
 -- The bytes begin with the text of a recording. Up to its end some recording goes on as the bytes do.
 pub record BeginsWith (bytes : List ℕ) (conns : List (List ℕ)) : Type 0 where
-  pub few : length conns ≤ 4096
+  pub few : length conns ≤ MAX_CONNS
   pub rest : List ℕ
   pub text : bytes ≡ record_text conns ++ rest
 

@@ -12,5 +12,5 @@ mod tests;
 
 pub use generated::make_recording;
 pub use print::{print_records, print_replies};
-pub use read::{RecordRefused, one_recording, read_records};
+pub use read::{MAX_CONNS, RecordRefused, one_recording, read_records, some_recording};
 pub use records::{ConnectionOctets, Records, Replies};

@@ -1,4 +1,5 @@
 //! Recordings and replies as text.
+ghost use Rattle.conn_record.specs.declared.read.TheConstants.{MAX_CONNS};
 ghost use Rattle.std.specs.Prelude.{◌≡◌, ◌++◌, ◌≤◌, length, IfOk, OnOk};
 ghost use Rattle.conn_record.specs.Records.{conn_text, conns_text, record_text, reply_text};
 
@@ -30,7 +31,7 @@ fn push_conns(out: &mut Bytes, conns: &[Bytes]) -> Result<(), NoMemory>
 
 /// The text of a recording.
 pub fn print_records(alloc: Global, records: &Records) -> Result<Bytes, NoMemory>
-    requires { length records.now ≤ 4096 }
+    requires { length records.now ≤ MAX_CONNS }
     ensures { IfOk result (λ text. text ≡ record_text records.now) }
 {
     let mut out = Bytes::from_slice(alloc, b"kjrec 1\n")?;

@@ -1,6 +1,6 @@
 //! Reads recordings.
-ghost use Rattle.std.specs.Prelude.{◌≡◌, ◌++◌, ◌<◌, ◌^◌, ℕ, List, All, length, IfOk, IfErr, MatchOption};
-ghost use Rattle.conn_record.specs.Records.{conn_text, record_text, IsRecording, HasNoConn};
+ghost use Rattle.std.specs.Prelude.{◌≡◌, ◌++◌, ◌<◌, ◌^◌, ◌⊎◌, ℕ, List, All, length, IfOk, IfErr, MatchOption};
+ghost use Rattle.conn_record.specs.Records.{conn_text, record_text, IsRecording, IsNoRecording, IsWholeUpTo, HasNoConn};
 ghost use Rattle.conn_record.specs.Refused.{IsRefusal};
 
 use crate::Records;
@@ -9,7 +9,8 @@ use kj_base::{Bytes, NoMemory};
 use std::alloc::Global;
 use thiserror::Error;
 
-const MAX_CONNS: usize = 4096;
+/// The most connections that a recording may have.
+pub const MAX_CONNS: usize = 4_096;
 
 /// Why a recording wasn't read.
 #[derive(Clone, Copy, Debug, PartialEq, Eq, Error)]
@@ -60,7 +61,9 @@ pub fn read_records(alloc: Global, bytes: &[u8]) -> Result<Records, RecordRefuse
     while !rest.is_empty() {
         let whole = records.len();
         if whole == MAX_CONNS {
-            return Err(RecordRefused::Bad { whole: 4096 });
+            return Err(RecordRefused::Bad {
+                whole: MAX_CONNS as u32,
+            });
         }
         let Some((octets, after)) = read_conn(rest) else {
             return Err(RecordRefused::Bad {
@@ -76,4 +79,11 @@ pub fn read_records(alloc: Global, bytes: &[u8]) -> Result<Records, RecordRefuse
 /// A text is that of at most one recording, whose connections have fewer than 2^64 octets each.
 pub fn one_recording()
     ensures { (a b : List (List ℕ)) → All (λ conn. length conn < 2 ^ 64) a → All (λ conn. length conn < 2 ^ 64) b → record_text a ≡ record_text b → a ≡ b }
+{}
+
+/// Octets are the text of a recording, or of none, and then so many of its connections are whole.
+pub fn some_recording()
+    ensures { (bytes : List ℕ) → length bytes < 2 ^ 64
+        → ((conns : List (List ℕ)) × IsRecording bytes conns)
+        ⊎ (IsNoRecording bytes × ((whole : ℕ) × IsWholeUpTo bytes whole)) }
 {}

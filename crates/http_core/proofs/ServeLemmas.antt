@@ -8,14 +8,14 @@ use Rattle.http_core.specs.declared.message.Request.{Request}
 use Rattle.http_core.specs.declared.message.Answer.{Answer}
 use Rattle.http_core.specs.declared.message.End.TheVariants.{Closed, Bad}
 use Rattle.http_core.specs.declared.read.Part.{Part}
-use Rattle.http_core.specs.declared.read.Step.{Step}
-use Rattle.http_core.specs.declared.read.Step.TheVariants.{More, Whole, Fault}
+use Rattle.http_core.specs.declared.read.RequestRead.{RequestRead}
+use Rattle.http_core.specs.declared.read.RequestRead.TheVariants.{More, Whole, Fault}
 use Rattle.http_core.specs.Text.{fault_text}
 use Rattle.http_core.specs.Requests.{skip_pairs, IsRequest, Along, reply, replies}
-use Rattle.http_core.specs.Reading.{IsReading, Steps}
+use Rattle.http_core.specs.Reading.{IsReading, ReadsOn}
 use Rattle.kj_base.specs.declared.memory.NoMemory.{NoMemory}
-use Rattle.http_core.specs.declared.connection.Served.{Served}
-use Rattle.http_core.specs.Serving.{Answered, AnsweredAll, Serves}
+use Rattle.http_core.specs.declared.connection.AfterPiece.{AfterPiece}
+use Rattle.http_core.specs.Serving.{Answered, AnsweredAll, Serves, Grows}
 use Rattle.http_core.proofs.SkipLemmas.{skip_front}
 use Rattle.http_core.proofs.RequestLemmas.{request_append, request_long}
 
@@ -41,6 +41,12 @@ along_along (r ∷ requests) others bytes middle rest along then_these = (along.
 
 -- ---- the output
 
+pub grows_none : (xs : List ℕ) → Grows xs xs
+grows_none xs = ([], sym (append-nil xs))
+
+pub grows_on : (xs ys zs : List ℕ) → Grows xs ys → Grows ys zs → Grows xs zs
+grows_on xs ys zs first then_more = (first.0 ++ then_more.0, then_more.1 ∙ ap (λ (b : List ℕ). b ++ then_more.0) first.1 ∙ append_assoc xs first.0 then_more.0)
+
 pub output_push : (told : Option (Request → Answer)) (requests : List Request) (r : Request) (before after pushed : List ℕ) → IfSome told (λ f. after ≡ before ++ replies f requests) → IfSome told (λ f. pushed ≡ after ++ reply f r)
     → IfSome told (λ f. pushed ≡ before ++ replies f (requests ++ r ∷ []))
 output_push None requests r before after pushed so_far next = tt
@@ -62,23 +68,23 @@ output_none (Some f) output = sym (append-nil output)
 -- ---- a piece that is served
 
 -- some requests were answered, and a step was made on what is left of the piece
-pub record Serving (told : Option (Request → Answer)) (whole before after rest : List ℕ) (step : Step) : Type 0 where
+pub record Serving (told : Option (Request → Answer)) (whole before after rest : List ℕ) (step : RequestRead) : Type 0 where
   pub requests : List Request
   pub seen : List ℕ
   pub along : Along requests whole (seen ++ rest)
-  pub steps : Steps seen rest step
+  pub steps : ReadsOn seen rest step
   pub output : IfSome told (λ f. after ≡ before ++ replies f requests)
 
 -- how many octets a step left, and one: each further step leaves fewer
-abbrev pub left_of : Step → ℕ
+abbrev pub left_of : RequestRead → ℕ
 left_of (More part) = 0
 left_of (Whole request left) = suc left
 left_of (Fault code) = 0
 
-pub serving_as : (told : Option (Request → Answer)) (whole before after rest : List ℕ) (a b : Step) → a ≡ b → Serving told whole before after rest a → Serving told whole before after rest b
+pub serving_as : (told : Option (Request → Answer)) (whole before after rest : List ℕ) (a b : RequestRead) → a ≡ b → Serving told whole before after rest a → Serving told whole before after rest b
 serving_as told whole before after rest a b same serving = subst (Serving told whole before after rest) same serving
 
-pub serve_first : (told : Option (Request → Answer)) (bytes piece before : List ℕ) (step : Step) → Steps bytes piece step → Serving told (bytes ++ piece) before before piece step
+pub serve_first : (told : Option (Request → Answer)) (bytes piece before : List ℕ) (step : RequestRead) → ReadsOn bytes piece step → Serving told (bytes ++ piece) before before piece step
 serve_first told bytes piece before step steps = record { requests = []; seen = bytes; along = refl; steps = steps; output = output_none told before }
 
 pub serve_nothing : (told : Option (Request → Answer)) (whole before after : List ℕ) → after ≡ before → Answered told whole before after
@@ -88,7 +94,7 @@ pub serve_more : (told : Option (Request → Answer)) (whole before after rest :
 serve_more told whole before after rest part serving = (record { requests = serving.requests; rest = serving.seen ++ rest; along = serving.along; output = serving.output }, serving.steps)
 
 -- what is answered stays, where nothing more was written
-pub serve_stopped : (told : Option (Request → Answer)) (whole before after rest pushed : List ℕ) (step : Step) → pushed ≡ after → Serving told whole before after rest step → Answered told whole before pushed
+pub serve_stopped : (told : Option (Request → Answer)) (whole before after rest pushed : List ℕ) (step : RequestRead) → pushed ≡ after → Serving told whole before after rest step → Answered told whole before pushed
 serve_stopped told whole before after rest pushed step same serving = record {
   requests = serving.requests;
   rest = serving.seen ++ rest;
@@ -122,7 +128,7 @@ serve_closed told whole before after rest pushed r left stops text serving = rec
 
 -- a request was answered, and the rest is what stands behind it
 pub serve_on : (told : Option (Request → Answer)) (whole before after rest pushed next : List ℕ) (r : Request) (left : ℕ) → persists r.head ≡ true → IfSome told (λ f. pushed ≡ after ++ reply f r) → (left ≤ length rest → next ≡ drop (length rest - left) rest)
-    → Serving told whole before after rest (Whole r left) → Answered told whole before pushed × ((step : Step) → Steps [] next step → Serving told whole before pushed next step)
+    → Serving told whole before after rest (Whole r left) → Answered told whole before pushed × ((step : RequestRead) → ReadsOn [] next step → Serving told whole before pushed next step)
 serve_on told whole before after rest pushed next r left goes text end serving =
     let next_is = end serving.steps.0 in
     let along : Along (serving.requests ++ r ∷ []) whole next = along_push serving.requests whole (serving.seen ++ rest) next r serving.along (subst (IsRequest (skip_pairs (serving.seen ++ rest)) r) (sym next_is) serving.steps.1) goes in
@@ -131,6 +137,6 @@ serve_on told whole before after rest pushed next r left goes text end serving =
       λ step steps. record { requests = serving.requests ++ r ∷ []; seen = []; along = along; steps = steps; output = output },
     )
 
-pub serves_err : (told : Option (Request → Answer)) (whole before after : List ℕ) (result : Result Served NoMemory) → IsErr result → Answered told whole before after → Serves told whole before after result
+pub serves_err : (told : Option (Request → Answer)) (whole before after : List ℕ) (result : Result AfterPiece NoMemory) → IsErr result → Answered told whole before after → Serves told whole before after result
 serves_err told whole before after (Ok served) is answered = absurd (cc (is))
 serves_err told whole before after (Err error) is answered = answered

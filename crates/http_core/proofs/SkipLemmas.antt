@@ -1,6 +1,7 @@
 -- CRLF pairs before a request, and ends of lists.
-use Rattle.std.proofs.Common.{◌≡◌, ℕ, ◌+◌, ◌-◌, ◌≤◌, Bool, true, false, ◌&&◌, nat_eq, List, [], ◌∷◌, ◌++◌, length, drop, refl, sym, ap, ◌∙◌, arith, cond}
+use Rattle.std.proofs.Common.{◌≡◌, ◌≢◌, ℕ, ◌+◌, ◌-◌, ◌≤◌, Bool, true, false, ◌&&◌, nat_eq, List, [], ◌∷◌, ◌++◌, length, drop, refl, sym, ap, subst, ◌∙◌, arith, cond}
 use Rattle.std.proofs.lemmas.List.{length-append}
+use Rattle.std.proofs.lemmas.Bool.{ne_eqb}
 use Rattle.std.proofs.Math.Seq.{drop-append-add}
 use Rattle.http_core.specs.Requests.{skip_pairs}
 
@@ -37,6 +38,21 @@ kept (a ∷ b ∷ rest) more long =
 
 pub skip_front : (bytes more : List ℕ) → 2 ≤ length (skip_pairs bytes) → skip_pairs (bytes ++ more) ≡ skip_pairs bytes ++ more
 skip_front bytes more long = skip_again bytes more ∙ kept bytes more long
+
+-- an octet but CR begins no pair
+one_kept : (x : ℕ) (more : List ℕ) → x ≢ 13 → skip_pairs (x ∷ more) ≡ x ∷ more
+one_kept x [] other = refl
+one_kept x (m ∷ more) other = ap (λ (t : Bool). cond (t && nat_eq m 10) (skip_pairs more) (x ∷ m ∷ more)) (ne_eqb x 13 other)
+
+-- but for none and a lone CR, what is left stands before all that follows
+pub skip_stays : (bytes more : List ℕ) → skip_pairs bytes ≢ [] → skip_pairs bytes ≢ 13 ∷ [] → skip_pairs (bytes ++ more) ≡ skip_pairs bytes ++ more
+skip_stays bytes more some other =
+    skip_again bytes more ∙ by_text (skip_pairs bytes) refl
+  where
+    by_text : (text : List ℕ) → skip_pairs bytes ≡ text → skip_pairs (skip_pairs bytes ++ more) ≡ skip_pairs bytes ++ more
+    by_text [] same = absurd (some same)
+    by_text (x ∷ []) same = subst (λ (t : List ℕ). skip_pairs (t ++ more) ≡ t ++ more) (sym same) (one_kept x more (λ e. other (same ∙ ap (λ (y : ℕ). y ∷ []) e)))
+    by_text (x ∷ y ∷ rest) same = kept bytes more (omega (arith, ap length same))
 
 -- the last octets of a list are the last of its end
 pub last_of_end : (a x : List ℕ) (left : ℕ) → left ≤ length x → drop (length (a ++ x) - left) (a ++ x) ≡ drop (length x - left) x

@@ -1,6 +1,6 @@
 -- One chunk more.
-use Rattle.std.proofs.Common.{◌≡◌, ℕ, suc, ◌+◌, ◌-◌, ◌/◌, ◌<◌, min, false, nat_eq, List, ◌++◌, length, take, drop, sym, ap, ◌∙◌, arith, inl, inr, []}
-use Rattle.std.proofs.lemmas.List.{append_assoc, append-nil, length-drop, take_min}
+use Rattle.std.proofs.Common.{◌≡◌, ℕ, suc, ◌+◌, ◌-◌, ◌/◌, ◌<◌, min, false, nat_eq, List, ◌++◌, length, take, drop, refl, sym, ap, ◌∙◌, arith, inl, inr, []}
+use Rattle.std.proofs.lemmas.List.{append_assoc, append-nil, length-append, length-drop, length-take, take_at, take-append-le, take-take, take_min}
 use Rattle.std.proofs.Math.ListN.{drop_of_length-le}
 use Rattle.std.proofs.lemmas.Bool.{cases_lt}
 use Rattle.std.proofs.lemmas.Bool.Decides.{nat_tests}
@@ -39,3 +39,16 @@ no_chunks xs none = ap (λ (n : ℕ). chunks ((n + 4095) / 4096) xs) none
 
 pub chunks_done : (out rest whole : List ℕ) → length rest ≡ 0 → out ++ all_chunks rest ≡ whole → out ≡ whole
 chunks_done out rest whole none all = sym (append-nil out) ∙ ap (λ (b : List ℕ). out ++ b) (sym (no_chunks rest none)) ∙ all
+
+-- ---- what stood before stays in front
+
+pub front_stays : (old mid x : List ℕ) → mid ≡ old ++ x → take (length old) mid ≡ old
+front_stays old mid x grows = ap (take (length old)) grows ∙ take_at old x (length old) refl
+
+pub front_stays_on : (old mid new x : List ℕ) → mid ≡ old ++ x → take (length mid) new ≡ mid → take (length old) new ≡ old
+front_stays_on old mid new x grows front =
+    sym (take-take (length old) (length mid) new (omega (arith, ap length grows, length-append old x))) ∙ ap (take (length old)) front ∙ front_stays old mid x grows
+
+pub front_stays_more : (old mid new x : List ℕ) → take (length old) mid ≡ old → new ≡ mid ++ x → take (length old) new ≡ old
+front_stays_more old mid new x front grows =
+    ap (take (length old)) grows ∙ take-append-le (length old) mid x (omega (arith, ap length front, length-take (length old) mid)) ∙ front

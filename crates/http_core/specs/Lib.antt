@@ -4,4 +4,4 @@ pub mod Requests
 pub mod Replies
 pub mod Reading
 pub mod Serving
-pub mod Served
+pub mod Standing

@@ -2,11 +2,12 @@
 ghost use Rattle.std.specs.Prelude.{◌≡◌, ◌≢◌, ◌++◌, not, IfSome, IfOk, OnOk, OnErr, ℕ, List, [], drop, length, ◌-◌, ◌≤◌};
 ghost use Rattle.http_heads.specs.Framing.{persists};
 ghost use Rattle.http_core.specs.Requests.{reply};
-ghost use Rattle.http_core.specs.Reading.{phase_of, IsReadyStep, IsReading};
-ghost use Rattle.http_core.specs.Serving.{IsReadyServed, Serves, is_idle};
+ghost use Rattle.http_core.specs.Reading.{phase_of, IsReadyRead, IsReading};
+ghost use Rattle.http_core.specs.Serving.{IsReadyAfter, Serves, is_idle, Grows};
 ghost use Rattle.http_frames.specs.declared.Phase.TheVariants.{Going};
 
-use crate::read::{Part, Step, open, read_on};
+use crate::read::{Part, RequestRead, open, read_on};
+use crate::spare::Spare;
 use crate::text::{push_answer, push_fault};
 use crate::{End, Request, Service};
 use http_frames::Phase;
@@ -26,7 +27,7 @@ pub enum Fed {
 
 /// How a connection stands.
 #[derive(Clone, Copy, Debug, PartialEq, Eq)]
-pub enum State {
+pub enum ConnectionState {
     /// It takes octets.
     Going,
     /// Whatever follows, its requests end so.
@@ -41,7 +42,7 @@ pub enum State {
 
 /// What came of a piece.
 #[derive(Debug, Drop)]
-pub(crate) enum Served {
+pub(crate) enum AfterPiece {
     More(Part),
     Settled(End),
 }
@@ -56,6 +57,7 @@ fn answer<S: Service>(
     ensures persists { IfOk result (λ goes_on. goes_on ≡ persists request.now.head) }
     ensures ok { OnOk result (IfSome S.told (λ f. output.new ≡ output.old ++ reply f request.now)) }
     ensures err { OnErr result (output.new ≡ output.old) }
+    ensures grows { Grows output.old output.new }
 {
     let goes_on = persists(&request.head);
     let answer = service.answer(alloc, request)?;
@@ -79,29 +81,32 @@ fn last(piece: &[u8], left: usize) -> &[u8]
 fn serve<S: Service>(
     alloc: Global,
     service: &mut S,
+    spare: &mut Spare,
     part: Part,
     piece: &[u8],
     output: &mut Bytes,
-) -> Result<Served, NoMemory>
+) -> Result<AfterPiece, NoMemory>
     requires { phase_of part ≡ Phase.Going }
-    ensures ready { IfOk result IsReadyServed }
+    ensures ready { IfOk result IsReadyAfter }
     ensures serves { (bytes : List ℕ) → IsReading part bytes → Serves S.told (bytes ++ piece.now) output.old output.new result }
+    ensures grows { Grows output.old output.new }
 {
     let mut rest = piece;
-    let mut step = read_on(alloc, part, rest)?;
+    let mut step = read_on(alloc, spare, part, rest)?;
     loop {
         match step {
-            Step::More(part) => return Ok(Served::More(part)),
-            Step::Fault(code) => {
+            RequestRead::More(part) => return Ok(AfterPiece::More(part)),
+            RequestRead::Fault(code) => {
                 push_fault(output, code)?;
-                return Ok(Served::Settled(End::Bad(code)));
+                return Ok(AfterPiece::Settled(End::Bad(code)));
             }
-            Step::Whole(request, left) => {
+            RequestRead::Whole(request, left) => {
                 if !answer(alloc, service, &request, output)? {
-                    return Ok(Served::Settled(End::Closed));
+                    return Ok(AfterPiece::Settled(End::Closed));
                 }
+                spare.keep(request);
                 rest = last(rest, left);
-                step = open(alloc, rest)?;
+                step = open(alloc, spare, rest)?;
             }
         }
     }
@@ -112,7 +117,9 @@ fn is_idle(part: &Part) -> bool
     ensures { result ≡ is_idle part.now }
 {
     match part {
-        Part::Head(octets) => octets.is_empty(),
+        Part::Line(octets) => octets.is_empty(),
+        Part::Head(_) => false,
+        Part::Crowded(_) => false,
         Part::Sized(_, _) => false,
         Part::Chunked(_, _) => false,
     }
@@ -124,28 +131,30 @@ pub struct Connection<S> {
     service: S,
     alloc: Global,
     part: Part,
+    spare: Spare,
     output: Bytes,
-    state: State,
+    state: ConnectionState,
     ghost ready: { phase_of part ≡ Going },
 }
 
 impl<S: Service> Connection<S> {
     ghost use Rattle.http_core.specs.Replies.{IsReplies};
-    ghost use Rattle.http_core.specs.Served.{IsServed, state_of, output_of, service_of, fed_of, ended_of, fed_with, drained_of};
+    ghost use Rattle.http_core.specs.Standing.{WasFed, state_of, output_of, service_of, fed_of, ended_of, fed_with, drained_of, FeedLeaves, EndLeaves};
 
     /// Takes no memory.
     pub fn new(alloc: Global, service: S) -> Connection<S>
-        ensures served { IsServed S.told result [] [] }
-        ensures going { state_of result ≡ State.Going }
+        ensures served { WasFed S.told result [] [] }
+        ensures going { state_of result ≡ ConnectionState.Going }
         ensures output { output_of result ≡ [] }
         ensures service { service_of result ≡ service }
     {
         Connection {
             service,
             alloc,
-            part: Part::Head(Bytes::new(alloc)),
+            part: Part::Line(Bytes::new(alloc)),
+            spare: Spare::new(alloc),
             output: Bytes::new(alloc),
-            state: State::Going,
+            state: ConnectionState::Going,
         }
     }
 
@@ -153,29 +162,37 @@ impl<S: Service> Connection<S> {
     /// memory the output still has the answers that were whole.
     pub fn feed(&mut self, piece: &[u8]) -> Result<Fed, NoMemory>
         ensures says { result ≡ fed_of (state_of self.new) }
-        ensures served { (fed taken : List ℕ) → IsServed S.told self.old fed taken → IsServed S.told self.new (fed_with (state_of self.old) fed piece.now) taken }
-        ensures stays { state_of self.old ≢ State.Going → self.new ≡ self.old }
-        ensures undrained { state_of self.old ≢ State.Drained → state_of self.new ≢ State.Drained }
+        ensures served { (fed taken : List ℕ) → WasFed S.told self.old fed taken → WasFed S.told self.new (fed_with (state_of self.old) fed piece.now) taken }
+        ensures stays { state_of self.old ≢ ConnectionState.Going → self.new ≡ self.old }
+        ensures leaves { state_of self.old ≡ ConnectionState.Going → FeedLeaves (state_of self.new) }
+        ensures grows { Grows (output_of self.old) (output_of self.new) }
     {
         match self.state {
-            State::Broken => return Err(NoMemory),
-            State::Settled(_) => return Ok(Fed::Closed),
-            State::Ended(_) => return Ok(Fed::Closed),
-            State::Drained => return Ok(Fed::Closed),
-            State::Going => {}
+            ConnectionState::Broken => return Err(NoMemory),
+            ConnectionState::Settled(_) => return Ok(Fed::Closed),
+            ConnectionState::Ended(_) => return Ok(Fed::Closed),
+            ConnectionState::Drained => return Ok(Fed::Closed),
+            ConnectionState::Going => {}
         }
-        let part = mem::replace(&mut self.part, Part::Head(Bytes::new(self.alloc)));
-        match serve(self.alloc, &mut self.service, part, piece, &mut self.output) {
+        let part = mem::replace(&mut self.part, Part::Line(Bytes::new(self.alloc)));
+        match serve(
+            self.alloc,
+            &mut self.service,
+            &mut self.spare,
+            part,
+            piece,
+            &mut self.output,
+        ) {
             Err(error) => {
-                self.state = State::Broken;
+                self.state = ConnectionState::Broken;
                 Err(error)
             }
-            Ok(Served::More(part)) => {
+            Ok(AfterPiece::More(part)) => {
                 self.part = part;
                 Ok(Fed::More)
             }
-            Ok(Served::Settled(end)) => {
-                self.state = State::Settled(end);
+            Ok(AfterPiece::Settled(end)) => {
+                self.state = ConnectionState::Settled(end);
                 Ok(Fed::Closed)
             }
         }
@@ -184,32 +201,33 @@ impl<S: Service> Connection<S> {
     /// No more octets come: what came of a request that isn't whole is a fault.
     pub fn end(&mut self) -> Result<(), NoMemory>
         ensures says { result ≡ ended_of (state_of self.new) }
-        ensures served { (fed taken : List ℕ) → IsServed S.told self.old fed taken → IsServed S.told self.new fed taken }
-        ensures ends { state_of self.new ≢ State.Going }
+        ensures served { (fed taken : List ℕ) → WasFed S.told self.old fed taken → WasFed S.told self.new fed taken }
+        ensures leaves { state_of self.old ≡ ConnectionState.Going → EndLeaves (state_of self.new) }
+        ensures grows { Grows (output_of self.old) (output_of self.new) }
 
         // The output taken and ready is all replies to what was fed.
-        ensures replies { OnOk result (state_of self.old ≢ State.Drained → (fed taken : List ℕ) → IsServed S.told self.old fed taken → IfSome S.told (λ f. IsReplies f fed (taken ++ output_of self.new))) }
-        ensures stays { state_of self.old ≢ State.Going → self.new ≡ self.old }
+        ensures replies { OnOk result (state_of self.old ≢ ConnectionState.Drained → (fed taken : List ℕ) → WasFed S.told self.old fed taken → IfSome S.told (λ f. IsReplies f fed (taken ++ output_of self.new))) }
+        ensures stays { state_of self.old ≢ ConnectionState.Going → self.new ≡ self.old }
         ensures service { service_of self.new ≡ service_of self.old }
     {
         match self.state {
-            State::Broken => return Err(NoMemory),
-            State::Settled(_) => return Ok(()),
-            State::Ended(_) => return Ok(()),
-            State::Drained => return Ok(()),
-            State::Going => {}
+            ConnectionState::Broken => return Err(NoMemory),
+            ConnectionState::Settled(_) => return Ok(()),
+            ConnectionState::Ended(_) => return Ok(()),
+            ConnectionState::Drained => return Ok(()),
+            ConnectionState::Going => {}
         }
         if is_idle(&self.part) {
-            self.state = State::Ended(End::Clean);
+            self.state = ConnectionState::Ended(End::Clean);
             return Ok(());
         }
         match push_fault(&mut self.output, 400) {
             Err(error) => {
-                self.state = State::Broken;
+                self.state = ConnectionState::Broken;
                 Err(error)
             }
             Ok(()) => {
-                self.state = State::Ended(End::Bad(400));
+                self.state = ConnectionState::Ended(End::Bad(400));
                 Ok(())
             }
         }
@@ -218,16 +236,16 @@ impl<S: Service> Connection<S> {
     /// No further request is answered. Takes no memory.
     pub fn drain(&mut self)
         ensures state { state_of self.new ≡ drained_of (state_of self.old) }
-        ensures served { (fed taken : List ℕ) → IsServed S.told self.old fed taken → IsServed S.told self.new fed taken }
+        ensures served { (fed taken : List ℕ) → WasFed S.told self.old fed taken → WasFed S.told self.new fed taken }
         ensures output { output_of self.new ≡ output_of self.old }
         ensures service { service_of self.new ≡ service_of self.old }
     {
         match self.state {
-            State::Going => self.state = State::Drained,
-            State::Settled(_) => {}
-            State::Ended(_) => {}
-            State::Drained => {}
-            State::Broken => {}
+            ConnectionState::Going => self.state = ConnectionState::Drained,
+            ConnectionState::Settled(_) => {}
+            ConnectionState::Ended(_) => {}
+            ConnectionState::Drained => {}
+            ConnectionState::Broken => {}
         }
     }
 
@@ -235,7 +253,7 @@ impl<S: Service> Connection<S> {
     pub fn take_output(&mut self) -> Bytes
         ensures output { result ≡ output_of self.old }
         ensures taken { output_of self.new ≡ [] }
-        ensures served { (fed taken : List ℕ) → IsServed S.told self.old fed taken → IsServed S.told self.new fed (taken ++ result) }
+        ensures served { (fed taken : List ℕ) → WasFed S.told self.old fed taken → WasFed S.told self.new fed (taken ++ result) }
         ensures state { state_of self.new ≡ state_of self.old }
         ensures service { service_of self.new ≡ service_of self.old }
     {

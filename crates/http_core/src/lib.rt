@@ -6,11 +6,12 @@ mod laws;
 mod message;
 mod read;
 mod service;
+mod spare;
 #[cfg(test)]
 mod tests;
 mod text;
 
-pub use connection::{Connection, Fed, State};
+pub use connection::{Connection, ConnectionState, Fed};
 pub use laws::{one_output, one_reading, some_output, some_reading};
 pub use message::{Answer, End, Request};
 pub use service::{Echo, Service, Target};

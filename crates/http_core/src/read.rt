@@ -1,24 +1,28 @@
 //! Reads one request from pieces.
 ghost use Rattle.std.specs.Prelude.{◌≡◌, ℕ, List, [], ◌++◌, ◌<◌, ◌≤◌, length, drop, IfOk, IfSome, IsTrue, false, ◌∷◌, Ok};
-ghost use Rattle.http_heads.specs.Heads.{Reads};
 ghost use Rattle.http_heads.specs.Framing.{framing_of};
 ghost use Rattle.http_heads.specs.declared.Framing.TheVariants as framings;
 ghost use Rattle.http_frames.specs.Progress.{IsFed};
 ghost use Rattle.http_core.specs.Requests.{skip_pairs};
-ghost use Rattle.http_core.specs.Reading.{NoHeadWithin, IsLong, phase_of, IsReadyStep, IsReading, Steps, BodySteps, Begins, TakesSome};
+ghost use Rattle.http_core.specs.Reading.{NoHeadWithin, NoStopWithin, HasStart, phase_of, IsReadyRead, IsReadyOpening, IsReading, ReadsOn, BodyReadsOn, Opens, Begins, TakesSome};
 
 use crate::Request;
+use crate::spare::Spare;
 use http_frames::{Chunks, Frame, Lengths, Phase};
 use http_heads::rules::framing;
-use http_heads::{Framing, Head, HeadRead, MAX_OCTETS, brings_head, read_head};
+use http_heads::{Framing, Head, HeadFill, MAX_OCTETS, brings_head, fill_head, first_stop};
 use kj_base::{Bytes, NoMemory};
 use std::alloc::Global;
 
 /// What came of a request that isn't whole.
 #[derive(Debug, Drop)]
 pub enum Part {
-    /// The octets of its head, without CRLF pairs before them.
+    /// Octets of its first line, without CRLF pairs before them.
+    Line(Bytes),
+    /// Octets of its head, whose first line is whole.
     Head(Bytes),
+    /// So many octets of a head that has too many fields.
+    Crowded(usize),
     /// Its head, and a part of a body of known length.
     Sized(Head, Lengths),
     /// Its head, and a part of a body in chunks.
@@ -27,13 +31,26 @@ pub enum Part {
 
 /// What a piece did.
 #[derive(Debug, Drop)]
-pub enum Step {
+pub enum RequestRead {
     /// The request isn't whole.
     More(Part),
     /// The request is whole, and so many octets of the piece are left behind it.
     Whole(Request, usize),
     /// The octets begin no request: 400 or 501.
     Fault(u16),
+}
+
+/// What stands at the front, where a request begins.
+#[derive(Debug, Drop)]
+enum Opening {
+    /// Its first line isn't whole.
+    Line,
+    /// Its head isn't whole.
+    Head,
+    /// Its head isn't whole, and has too many fields.
+    Crowded,
+    /// Its head is whole, or can't be one.
+    Read(RequestRead),
 }
 
 fn has_pair(bytes: &[u8]) -> bool
@@ -60,82 +77,117 @@ pub fn skip_pairs(bytes: &[u8]) -> &[u8]
     rest
 }
 
-/// Reads the head at the front, once it may be there. None ends before `from`.
-fn find_head(alloc: Global, bytes: &[u8], from: usize) -> Result<HeadRead, NoMemory>
-    ensures reads { IfOk result (λ found. NoHeadWithin from bytes.now → Reads bytes.now found) }
-    ensures more { result ≡ Ok HeadRead.More → length bytes.now < 65536 }
-    ensures long { IfOk result (IsLong bytes.now) }
-{
-    if bytes.len() < MAX_OCTETS {
-        if !brings_head(bytes, from) {
-            return Ok(HeadRead::More);
-        }
-    }
-    read_head(alloc, bytes)
-}
-
 /// Reads the next octets of a body of known length.
-fn read_sized(head: Head, mut lengths: Lengths, piece: &[u8]) -> Result<Step, NoMemory>
+fn read_sized(head: Head, mut lengths: Lengths, piece: &[u8]) -> Result<RequestRead, NoMemory>
     requires { lengths.phase ≡ Phase.Going }
-    ensures ready { IfOk result IsReadyStep }
-    ensures steps { IfOk result (λ step. framing_of head ≡ framings.Length lengths.size → (behind : List ℕ) → lengths.body ≡ behind → BodySteps head behind piece.now step) }
+    ensures ready { IfOk result IsReadyRead }
+    ensures steps { IfOk result (λ step. framing_of head ≡ framings.Length lengths.size → (behind : List ℕ) → lengths.body ≡ behind → BodyReadsOn head behind piece.now step) }
 {
     match lengths.feed(piece)? {
-        Frame::More => Ok(Step::More(Part::Sized(head, lengths))),
+        Frame::More => Ok(RequestRead::More(Part::Sized(head, lengths))),
         Frame::Whole(count) => {
             let body = lengths.body();
-            Ok(Step::Whole(Request { head, body }, piece.len().saturating_sub(count)))
+            Ok(RequestRead::Whole(Request { head, body }, piece.len().saturating_sub(count)))
         }
-        Frame::Bad => Ok(Step::Fault(400)),
+        Frame::Bad => Ok(RequestRead::Fault(400)),
     }
 }
 
 /// Reads the next octets of a body in chunks.
-fn read_chunked(head: Head, mut chunks: Chunks, piece: &[u8]) -> Result<Step, NoMemory>
+fn read_chunked(head: Head, mut chunks: Chunks, piece: &[u8]) -> Result<RequestRead, NoMemory>
     requires { chunks.phase ≡ Phase.Going }
-    ensures ready { IfOk result IsReadyStep }
-    ensures steps { IfOk result (λ step. framing_of head ≡ framings.Chunked → (behind : List ℕ) → IsFed chunks behind → BodySteps head behind piece.now step) }
+    ensures ready { IfOk result IsReadyRead }
+    ensures steps { IfOk result (λ step. framing_of head ≡ framings.Chunked → (behind : List ℕ) → IsFed chunks behind → BodyReadsOn head behind piece.now step) }
 {
     match chunks.feed(piece)? {
-        Frame::More => Ok(Step::More(Part::Chunked(head, chunks))),
+        Frame::More => Ok(RequestRead::More(Part::Chunked(head, chunks))),
         Frame::Whole(count) => {
             let body = chunks.body();
-            Ok(Step::Whole(Request { head, body }, piece.len().saturating_sub(count)))
+            Ok(RequestRead::Whole(Request { head, body }, piece.len().saturating_sub(count)))
         }
-        Frame::Bad => Ok(Step::Fault(400)),
+        Frame::Bad => Ok(RequestRead::Fault(400)),
     }
 }
 
 /// Reads what stands behind a head.
-fn read_behind(alloc: Global, head: Head, behind: &[u8]) -> Result<Step, NoMemory>
-    ensures ready { IfOk result IsReadyStep }
-    ensures steps { IfOk result (BodySteps head [] behind.now) }
+fn read_behind(
+    alloc: Global,
+    spare: &mut Spare,
+    head: Head,
+    behind: &[u8],
+) -> Result<RequestRead, NoMemory>
+    ensures ready { IfOk result IsReadyRead }
+    ensures steps { IfOk result (BodyReadsOn head [] behind.now) }
 {
     match framing(&head) {
         Framing::Empty => {
-            let body = Bytes::new(alloc);
-            Ok(Step::Whole(Request { head, body }, behind.len()))
+            let body = spare.take_body(alloc);
+            Ok(RequestRead::Whole(Request { head, body }, behind.len()))
         }
-        Framing::Length(size) => read_sized(head, Lengths::new(alloc, size), behind),
-        Framing::Chunked => read_chunked(head, Chunks::new(alloc), behind),
-        Framing::Fault(code) => Ok(Step::Fault(code)),
+        Framing::Length(size) => {
+            read_sized(head, Lengths::new_in(spare.take_body(alloc), size), behind)
+        }
+        Framing::Chunked => {
+            read_chunked(head, Chunks::new_in(alloc, spare.take_body(alloc)), behind)
+        }
+        Framing::Fault(code) => Ok(RequestRead::Fault(code)),
     }
 }
 
-/// Reads a request whose first octets are there. None where its head isn't whole.
-fn begin(alloc: Global, bytes: &[u8], from: usize) -> Result<Option<Step>, NoMemory>
-    ensures ready { IfOk result (λ begun. IfSome begun IsReadyStep) }
-    ensures begins { IfOk result (λ begun. NoHeadWithin from bytes.now → Begins from bytes.now begun) }
+/// Reads a request whose head may be whole.
+fn read_front(alloc: Global, spare: &mut Spare, bytes: &[u8]) -> Result<Opening, NoMemory>
+    ensures ready { IfOk result IsReadyOpening }
+    ensures opens { IfOk result (λ opening. (from : ℕ) → NoHeadWithin from bytes.now → Opens from bytes.now opening) }
 {
-    match find_head(alloc, bytes, from)? {
-        HeadRead::More => Ok(None),
-        HeadRead::Bad => Ok(Some(Step::Fault(400))),
-        HeadRead::Whole(head, len) => {
+    match fill_head(alloc, &mut spare.head, bytes)? {
+        HeadFill::More => Ok(Opening::Head),
+        HeadFill::Crowded => Ok(Opening::Crowded),
+        HeadFill::Bad => Ok(Opening::Read(RequestRead::Fault(400))),
+        HeadFill::Whole(len) => {
             let behind = behind_head(bytes, len);
-            let step = read_behind(alloc, head, behind)?;
-            Ok(Some(step))
+            let head = spare.take_head(alloc);
+            let step = read_behind(alloc, spare, head, behind)?;
+            Ok(Opening::Read(step))
         }
     }
+}
+
+/// Reads a request once its first line is whole, or can't be one. No stop of it stands before
+/// `from`.
+fn begin_line(
+    alloc: Global,
+    spare: &mut Spare,
+    bytes: &[u8],
+    from: usize,
+) -> Result<Opening, NoMemory>
+    ensures ready { IfOk result IsReadyOpening }
+    ensures begins { IfOk result (λ opening. NoStopWithin from bytes.now → Begins from bytes.now opening) }
+{
+    if bytes.len() >= MAX_OCTETS {
+        return read_front(alloc, spare, bytes);
+    }
+    match first_stop(bytes, from) {
+        None => Ok(Opening::Line),
+        Some(_) => read_front(alloc, spare, bytes),
+    }
+}
+
+/// Reads a request whose first line was whole, once its head may be.
+fn begin_head(
+    alloc: Global,
+    spare: &mut Spare,
+    bytes: &[u8],
+    from: usize,
+) -> Result<Opening, NoMemory>
+    ensures ready { IfOk result IsReadyOpening }
+    ensures begins { IfOk result (λ opening. HasStart bytes.now → NoHeadWithin from bytes.now → Begins from bytes.now opening) }
+{
+    if bytes.len() < MAX_OCTETS {
+        if !brings_head(bytes, from) {
+            return Ok(Opening::Head);
+        }
+    }
+    read_front(alloc, spare, bytes)
 }
 
 fn behind_head(bytes: &[u8], len: usize) -> &[u8]
@@ -149,45 +201,109 @@ fn behind_head(bytes: &[u8], len: usize) -> &[u8]
 }
 
 /// Reads a request of which nothing came before but CRLF pairs.
-pub fn open(alloc: Global, piece: &[u8]) -> Result<Step, NoMemory>
-    ensures ready { IfOk result IsReadyStep }
-    ensures steps { IfOk result (λ step. (bytes : List ℕ) → skip_pairs bytes ≡ [] → Steps bytes piece.now step) }
+pub fn open(alloc: Global, spare: &mut Spare, piece: &[u8]) -> Result<RequestRead, NoMemory>
+    ensures ready { IfOk result IsReadyRead }
+    ensures steps { IfOk result (λ step. (bytes : List ℕ) → skip_pairs bytes ≡ [] → ReadsOn bytes piece.now step) }
     ensures some { IfOk result (TakesSome piece.now) }
 {
     let octets = skip_pairs(piece);
-    match begin(alloc, octets, 0)? {
-        Some(step) => Ok(step),
-        None => Ok(Step::More(Part::Head(Bytes::from_slice(alloc, octets)?))),
+    match begin_line(alloc, spare, octets, 0)? {
+        Opening::Line => {
+            let kept = spare.copy(alloc, octets)?;
+            Ok(RequestRead::More(Part::Line(kept)))
+        }
+        Opening::Head => {
+            let kept = spare.copy(alloc, octets)?;
+            Ok(RequestRead::More(Part::Head(kept)))
+        }
+        Opening::Crowded => Ok(RequestRead::More(Part::Crowded(octets.len()))),
+        Opening::Read(step) => Ok(step),
+    }
+}
+
+/// Reads on in a first line.
+fn read_in_line(
+    alloc: Global,
+    spare: &mut Spare,
+    mut octets: Bytes,
+    piece: &[u8],
+) -> Result<RequestRead, NoMemory>
+    ensures ready { IfOk result IsReadyRead }
+    ensures steps { IfOk result (λ step. (bytes : List ℕ) → IsReading (Part.Line octets) bytes → ReadsOn bytes piece.now step) }
+{
+    if octets.is_empty() {
+        return open(alloc, spare, piece);
+    }
+    let from = octets.len();
+    octets.extend(piece)?;
+    // A lone CR may be the first of a pair, which is dropped.
+    if from == 1 {
+        return open(alloc, spare, octets.as_slice());
+    }
+    match begin_line(alloc, spare, octets.as_slice(), from)? {
+        Opening::Line => Ok(RequestRead::More(Part::Line(octets))),
+        Opening::Head => Ok(RequestRead::More(Part::Head(octets))),
+        Opening::Crowded => Ok(RequestRead::More(Part::Crowded(octets.len()))),
+        Opening::Read(step) => {
+            spare.keep_octets(octets);
+            Ok(step)
+        }
     }
 }
 
 /// Reads on in a head.
-fn read_in_head(alloc: Global, mut octets: Bytes, piece: &[u8]) -> Result<Step, NoMemory>
-    ensures ready { IfOk result IsReadyStep }
-    ensures steps { IfOk result (λ step. (bytes : List ℕ) → IsReading (Part.Head octets) bytes → Steps bytes piece.now step) }
+fn read_in_head(
+    alloc: Global,
+    spare: &mut Spare,
+    mut octets: Bytes,
+    piece: &[u8],
+) -> Result<RequestRead, NoMemory>
+    ensures ready { IfOk result IsReadyRead }
+    ensures steps { IfOk result (λ step. (bytes : List ℕ) → IsReading (Part.Head octets) bytes → ReadsOn bytes piece.now step) }
 {
-    if octets.is_empty() {
-        return open(alloc, piece);
-    }
     let from = octets.len();
     octets.extend(piece)?;
-    if from == 1 {
-        return open(alloc, octets.as_slice());
-    }
-    match begin(alloc, octets.as_slice(), from)? {
-        Some(step) => Ok(step),
-        None => Ok(Step::More(Part::Head(octets))),
+    match begin_head(alloc, spare, octets.as_slice(), from)? {
+        Opening::Line => Ok(RequestRead::More(Part::Line(octets))),
+        Opening::Head => Ok(RequestRead::More(Part::Head(octets))),
+        Opening::Crowded => Ok(RequestRead::More(Part::Crowded(octets.len()))),
+        Opening::Read(step) => {
+            spare.keep_octets(octets);
+            Ok(step)
+        }
     }
 }
 
+/// Reads on in a head that has too many fields: it is refused where it has as many octets as a
+/// head may have.
+fn read_in_crowd(len: usize, piece: &[u8]) -> RequestRead
+    ensures ready { IsReadyRead result }
+    ensures steps { (bytes : List ℕ) → IsReading (Part.Crowded len) bytes → ReadsOn bytes piece.now result }
+{
+    if len >= MAX_OCTETS {
+        return RequestRead::Fault(400);
+    }
+    if piece.len() >= MAX_OCTETS - len {
+        return RequestRead::Fault(400);
+    }
+    RequestRead::More(Part::Crowded(len + piece.len()))
+}
+
 /// Reads on in a request.
-pub fn read_on(alloc: Global, part: Part, piece: &[u8]) -> Result<Step, NoMemory>
+pub fn read_on(
+    alloc: Global,
+    spare: &mut Spare,
+    part: Part,
+    piece: &[u8],
+) -> Result<RequestRead, NoMemory>
     requires { phase_of part ≡ Phase.Going }
-    ensures ready { IfOk result IsReadyStep }
-    ensures steps { IfOk result (λ step. (bytes : List ℕ) → IsReading part bytes → Steps bytes piece.now step) }
+    ensures ready { IfOk result IsReadyRead }
+    ensures steps { IfOk result (λ step. (bytes : List ℕ) → IsReading part bytes → ReadsOn bytes piece.now step) }
 {
     match part {
-        Part::Head(octets) => read_in_head(alloc, octets, piece),
+        Part::Line(octets) => read_in_line(alloc, spare, octets, piece),
+        Part::Head(octets) => read_in_head(alloc, spare, octets, piece),
+        Part::Crowded(len) => Ok(read_in_crowd(len, piece)),
         Part::Sized(head, lengths) => read_sized(head, lengths, piece),
         Part::Chunked(head, chunks) => read_chunked(head, chunks, piece),
     }

@@ -383,6 +383,95 @@ fn octets_behind_a_drain_are_dropped(rt: HostRuntime) -> Result<(), Fail> {
     Ok(())
 }
 
+/// Octets that begin no request, and how many of them there are when this is seen.
+static NO_REQUESTS: [(&[u8], usize); 7] = [
+    (b"HELLO\n GET / HTTP/1.1\r\nHost: a\r\n\r\n", 6),
+    (b"\r\n\r\nHELLO\r\n\r\n", 11),
+    (b"\nHELLO\n", 7),
+    (b"GET / HTTP/3\r\nHost: a\r\n\r\n", 14),
+    // The beginning of a TLS hello.
+    (b"\x16\x03\x01\x02\0", 1),
+    (b"GET /\0 HTTP/1.1\r\n", 6),
+    // Behind the first line it is seen at the end of the head.
+    (b"GET / HTTP/1.1\r\nno field\r\nHost: a\r\n\r\nGET", 37),
+];
+
+/// How many octets are taken, each in a piece of its own, until the connection closes.
+fn taken_until_closed(alloc: Global, octets: &[u8]) -> Result<usize, NoMemory> {
+    let mut connection = connection_of(alloc, Echo);
+    for (index, octet) in octets.iter().enumerate() {
+        if feed(&mut connection, &[*octet])? == Fed::Closed {
+            return Ok(index.saturating_add(1));
+        }
+    }
+    Ok(0)
+}
+
+#[test]
+fn octets_that_begin_no_request_are_refused_early(rt: HostRuntime) -> Result<(), Fail> {
+    for (octets, count) in NO_REQUESTS.iter() {
+        assert!(&rt; taken_until_closed(rt.alloc(), octets)? == *count);
+        let mut connection = connection_of(rt.alloc(), Echo);
+        let (first, _) = cut(octets, *count);
+        assert!(&rt; feed(&mut connection, first)? == Fed::Closed);
+        assert!(&rt; take_output(&mut connection).as_slice() == FAULT);
+    }
+    Ok(())
+}
+
+#[test]
+fn too_many_fields_are_refused_at_the_limit(rt: HostRuntime) -> Result<(), Fail> {
+    let alloc = rt.alloc();
+    let mut connection = connection_of(alloc, Echo);
+    assert!(&rt; feed(&mut connection, b"GET / HTTP/1.0\r\n")? == Fed::More);
+    assert!(&rt; feed(&mut connection, many(alloc, b"A: b\r\n", 101)?.as_slice())? == Fed::More);
+    assert!(&rt; feed(&mut connection, b"\r\n")? == Fed::More);
+    let rest = many(alloc, b"x", 64_911)?;
+    assert!(&rt; feed(&mut connection, rest.as_slice())? == Fed::More);
+    assert!(&rt; take_output(&mut connection).is_empty());
+    assert!(&rt; feed(&mut connection, b"x")? == Fed::Closed);
+    assert!(&rt; take_output(&mut connection).as_slice() == FAULT);
+    Ok(())
+}
+
+/// What a service was asked on a connection whose octets come in two pieces, cut there, with those
+/// of another connection between them.
+fn asked(alloc: Global, octets: &[u8], at: usize) -> Result<Bytes, NoMemory> {
+    let log = Log {
+        targets: Bytes::new(alloc),
+    };
+    let mut connection = connection_of(alloc, log);
+    let mut other = connection_of(
+        alloc,
+        Log {
+            targets: Bytes::new(alloc),
+        },
+    );
+    let (first, second) = cut(octets, at);
+    feed(&mut connection, first)?;
+    feed(&mut other, b"GET /other HTTP/1.1\r\nHost: a\r\n\r\n")?;
+    feed(&mut connection, second)?;
+    end(&mut connection)?;
+    end(&mut other)?;
+    let mut targets = connection.service().targets;
+    targets.extend(other.service().targets.as_slice())?;
+    Ok(targets)
+}
+
+#[test]
+fn a_service_is_asked_once_for_each_request_in_order(rt: HostRuntime) -> Result<(), Fail> {
+    let octets =
+        b"GET /1 HTTP/1.1\r\nHost: a\r\n\r\nPOST /2 HTTP/1.1\r\nHost: a\r\nContent-Length: 3\r\n\r\nabcGET /1 HTTP/1.1\r\nHost: a\r\n\r\nHEAD /3 HTTP/1.0\r\n\r\nGET /4 HTTP/1.1\r\nHost: a\r\n\r\n";
+    for at in 0..=octets.len() {
+        let targets = asked(rt.alloc(), octets, at)?;
+        assert!(&rt;
+            targets.as_slice() == b"/1 /2 /1 /3 /other ".as_slice(),
+            "cut at {at}"
+        );
+    }
+    Ok(())
+}
+
 /// The answer in chunks of a body of so many octets.
 fn chunked_answer(alloc: Global, count: usize) -> Result<Bytes, NoMemory> {
     let body = many(alloc, b"x", count)?;
@@ -428,6 +517,29 @@ impl Service for Fixed {
             status: 200,
             body,
             chunked: true,
+        })
+    }
+}
+
+/// Keeps the targets that it is asked for, and tells nothing.
+#[derive(Debug, Drop)]
+struct Log {
+    targets: Bytes,
+}
+
+impl Service for Log {
+    ghost use Rattle.std.specs.Prelude.{None};
+
+    ghost told = { None };
+
+    fn answer(&mut self, alloc: Global, request: &Request) -> Result<Answer, NoMemory> {
+        self.targets.extend(request.head.target.as_slice())?;
+        self.targets.push(b' ')?;
+        let body = Bytes::new(alloc);
+        Ok(Answer {
+            status: 200,
+            body,
+            chunked: false,
         })
     }
 }

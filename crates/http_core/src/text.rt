@@ -1,5 +1,5 @@
 //! The texts of answers.
-ghost use Rattle.std.specs.Prelude.{◌≡◌, ◌++◌, IfOk, OnOk, OnErr};
+ghost use Rattle.std.specs.Prelude.{◌≡◌, ◌++◌, length, take, OnOk, OnErr};
 ghost use Rattle.http_core.specs.Text.{reason, status_line, has_no_length, length_line, connection_line, is_chunked, all_chunks, chunked_text, body_text, head_text, text, fault_text};
 
 use crate::{Answer, Request};
@@ -10,9 +10,6 @@ use std::alloc::Global;
 
 /// The octets of a chunk of an answer, but for the last.
 const CHUNK: usize = 4096;
-
-/// Room for the lines of an answer: the longest have 94 octets.
-const HEAD_ROOM: usize = 96;
 
 fn reason(status: u16) -> &'static [u8]
     ensures { result.now ≡ reason status }
@@ -32,14 +29,16 @@ fn reason(status: u16) -> &'static [u8]
 
 #[tactic(auto, unfolding(crate::specs::Text::status_line))]
 fn push_status(out: &mut Bytes, status: u16) -> Result<(), NoMemory>
-    ensures { OnOk result (out.new ≡ out.old ++ status_line status) }
+    ensures ok { OnOk result (out.new ≡ out.old ++ status_line status) }
+    ensures err { OnErr result (take (length out.old) out.new ≡ out.old) }
 {
     let mut buffer = Buffer::new();
     out.extend(b"HTTP/1.1 ")?;
     out.extend(buffer.format(status).as_bytes())?;
     out.push(b' ')?;
     out.extend(reason(status))?;
-    out.extend(b"\r\n")
+    out.extend(b"\r\n")?;
+    Ok(())
 }
 
 fn has_no_length(status: u16) -> bool
@@ -56,7 +55,8 @@ fn is_chunked(minor: u8, answer: &Answer) -> bool
 
 #[tactic(auto, unfolding(crate::specs::Text::length_line))]
 fn push_length(out: &mut Bytes, minor: u8, answer: &Answer) -> Result<(), NoMemory>
-    ensures { OnOk result (out.new ≡ out.old ++ length_line minor answer.now) }
+    ensures ok { OnOk result (out.new ≡ out.old ++ length_line minor answer.now) }
+    ensures err { OnErr result (take (length out.old) out.new ≡ out.old) }
 {
     if has_no_length(answer.status) {
         return Ok(());
@@ -67,12 +67,14 @@ fn push_length(out: &mut Bytes, minor: u8, answer: &Answer) -> Result<(), NoMemo
     let mut buffer = Buffer::new();
     out.extend(b"Content-Length: ")?;
     out.extend(buffer.format(answer.body.len()).as_bytes())?;
-    out.extend(b"\r\n")
+    out.extend(b"\r\n")?;
+    Ok(())
 }
 
 #[tactic(auto, unfolding(crate::specs::Text::connection_line))]
 fn push_connection(out: &mut Bytes, minor: u8, closes: bool) -> Result<(), NoMemory>
-    ensures { OnOk result (out.new ≡ out.old ++ connection_line minor closes) }
+    ensures ok { OnOk result (out.new ≡ out.old ++ connection_line minor closes) }
+    ensures err { OnErr result (take (length out.old) out.new ≡ out.old) }
 {
     if closes {
         out.extend(b"Connection: close\r\n")
@@ -85,7 +87,8 @@ fn push_connection(out: &mut Bytes, minor: u8, closes: bool) -> Result<(), NoMem
 
 /// Appends the octets in chunks.
 fn push_chunks(alloc: Global, out: &mut Bytes, octets: &[u8]) -> Result<(), NoMemory>
-    ensures { OnOk result (out.new ≡ out.old ++ all_chunks octets.now) }
+    ensures ok { OnOk result (out.new ≡ out.old ++ all_chunks octets.now) }
+    ensures err { OnErr result (take (length out.old) out.new ≡ out.old) }
 {
     let mut rest = octets;
     while !rest.is_empty() {
@@ -96,15 +99,15 @@ fn push_chunks(alloc: Global, out: &mut Bytes, octets: &[u8]) -> Result<(), NoMe
     Ok(())
 }
 
-/// The octets in chunks, with the last one.
+/// Appends the octets in chunks, with the last one.
 #[tactic(auto, unfolding(crate::specs::Text::chunked_text))]
-fn chunked_text(alloc: Global, octets: &[u8]) -> Result<Bytes, NoMemory>
-    ensures { IfOk result (λ text. text ≡ chunked_text octets.now) }
+fn push_chunked(alloc: Global, out: &mut Bytes, octets: &[u8]) -> Result<(), NoMemory>
+    ensures ok { OnOk result (out.new ≡ out.old ++ chunked_text octets.now) }
+    ensures err { OnErr result (take (length out.old) out.new ≡ out.old) }
 {
-    let mut text = Bytes::new(alloc);
-    push_chunks(alloc, &mut text, octets)?;
-    text.extend(b"0\r\n\r\n")?;
-    Ok(text)
+    push_chunks(alloc, out, octets)?;
+    out.extend(b"0\r\n\r\n")?;
+    Ok(())
 }
 
 /// Appends the body of an answer, as its request wants it.
@@ -116,34 +119,48 @@ fn push_body(
     answer: &Answer,
 ) -> Result<(), NoMemory>
     ensures ok { OnOk result (out.new ≡ out.old ++ body_text request.now.head.method request.now.head.minor answer.now) }
-    ensures err { OnErr result (out.new ≡ out.old) }
+    ensures err { OnErr result (take (length out.old) out.new ≡ out.old) }
 {
     let method = request.head.method.as_slice();
     if method == b"HEAD".as_slice() || has_no_length(answer.status) {
         return Ok(());
     }
     if is_chunked(request.head.minor, answer) {
-        let text = chunked_text(alloc, answer.body.as_slice())?;
-        return out.extend(text.as_slice());
+        return push_chunked(alloc, out, answer.body.as_slice());
     }
     out.extend(answer.body.as_slice())
 }
 
-/// The lines of an answer, with the empty one.
+/// Appends the lines of an answer, with the empty one.
 #[tactic(auto, unfolding(crate::specs::Text::head_text))]
-fn head_text(alloc: Global, minor: u8, answer: &Answer, closes: bool) -> Result<Bytes, NoMemory>
-    ensures { IfOk result (λ text. text ≡ head_text minor answer.now closes) }
+fn push_head(out: &mut Bytes, minor: u8, answer: &Answer, closes: bool) -> Result<(), NoMemory>
+    ensures ok { OnOk result (out.new ≡ out.old ++ head_text minor answer.now closes) }
+    ensures err { OnErr result (take (length out.old) out.new ≡ out.old) }
 {
-    let mut text = Bytes::with_capacity(alloc, HEAD_ROOM)?;
-    push_status(&mut text, answer.status)?;
-    push_length(&mut text, minor, answer)?;
-    push_connection(&mut text, minor, closes)?;
-    text.extend(b"\r\n")?;
-    Ok(text)
+    push_status(out, answer.status)?;
+    push_length(out, minor, answer)?;
+    push_connection(out, minor, closes)?;
+    out.extend(b"\r\n")?;
+    Ok(())
+}
+/// Appends the text of an answer; after want of memory a part of it may stand behind the octets.
+#[tactic(auto, unfolding(crate::specs::Text::text))]
+fn append_answer(
+    alloc: Global,
+    out: &mut Bytes,
+    request: &Request,
+    answer: &Answer,
+    closes: bool,
+) -> Result<(), NoMemory>
+    ensures ok { OnOk result (out.new ≡ out.old ++ text request.now answer.now closes) }
+    ensures err { OnErr result (take (length out.old) out.new ≡ out.old) }
+{
+    push_head(out, request.head.minor, answer, closes)?;
+    push_body(alloc, out, request, answer)?;
+    Ok(())
 }
 
 /// Appends the text of an answer.
-#[tactic(auto, unfolding(crate::specs::Text::text))]
 pub(crate) fn push_answer(
     alloc: Global,
     out: &mut Bytes,
@@ -155,9 +172,7 @@ pub(crate) fn push_answer(
     ensures err { OnErr result (out.new ≡ out.old) }
 {
     let before = out.len();
-    let head = head_text(alloc, request.head.minor, answer, closes)?;
-    out.extend(head.as_slice())?;
-    match push_body(alloc, out, request, answer) {
+    match append_answer(alloc, out, request, answer, closes) {
         Ok(()) => Ok(()),
         Err(error) => {
             out.truncate(before);

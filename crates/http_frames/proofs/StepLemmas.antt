@@ -14,6 +14,7 @@ use Rattle.http_frames.specs.declared.reader.Stage.{Stage}
 use Rattle.http_frames.specs.declared.reader.Stage.TheVariants as stages
 use Rattle.http_frames.specs.Chunks.{is_size_line, size_of, line_text, Chunk, IsChunk, IsTrailer, texts, contents, AreChunks, Body, NeverHasBody, NoCr, Waits}
 use Rattle.http_frames.specs.Reader.{HasData, HasLast, Keeps, IsReadAs, IsSound}
+use Rattle.http_frames.specs.Pieces.{IsWholeChunk}
 use Rattle.http_frames.proofs.LineLemmas.{no_line_in, no_line_before_lf}
 use Rattle.http_frames.proofs.ChunkLemmas.{texts_append, texts_push, contents_push, chunks_push, NeverHasUnit, never_body, never_unit_long, never_unit_no_lf, never_unit_unsized, never_unit_large, never_unit_end, never_unit_trailer, body_text}
 
@@ -236,6 +237,47 @@ lf_comes stage pending body piece pending' bytes at some lf empty read =
 
 pub line_starts_sound : (stage : Stage) (pending body pending' : List ℕ) → IsSound stage pending body → pending' ≡ [] → IsSound stages.Line pending' body
 line_starts_sound stage pending body pending' sound empty = record { small = sound.small; kept = (subst NoCr (sym empty) tt, omega (arith, ap length empty)) }
+
+-- ---- a chunk as a whole
+
+pub whole_from_parts : (line behind piece octets rest left : List ℕ) (size : ℕ) → piece ≡ line ++ behind → behind ≡ 13 ∷ 10 ∷ (octets ++ rest) → rest ≡ 13 ∷ 10 ∷ left → IsTrue (is_size_line line) → size_of line ≡ size → length octets ≡ size → 0 < size → IsWholeChunk line octets piece
+whole_from_parts line behind piece octets rest left size parts more last sized size_is count some = record {
+  sized = sized;
+  size = size_is ∙ sym count;
+  some = omega (arith, count);
+  rest = left;
+  text = parts ∙ ap (λ (b : List ℕ). line ++ b) (more ∙ ap (λ (r : List ℕ). 13 ∷ 10 ∷ (octets ++ r)) last);
+}
+
+pub chunk_size : (line octets piece : List ℕ) → (w : IsWholeChunk line octets piece) → length piece ≡ length line + length octets + 4 + length w.rest
+chunk_size line octets piece w = omega (arith, ap length w.text, length-append line (13 ∷ 10 ∷ (octets ++ 13 ∷ 10 ∷ w.rest)), length-append octets (13 ∷ 10 ∷ w.rest))
+
+pub chunk_comes : (stage : Stage) (pending body piece body' line octets bytes : List ℕ) (n : ℕ) → stage ≡ stages.Line → pending ≡ [] → IsWholeChunk line octets piece → n ≡ length line + length octets + 4 → body' ≡ body ++ octets → IsReadAs stage pending body bytes → IsReadAs stage pending body' (bytes ++ take n piece)
+chunk_comes stage pending body piece body' line octets bytes n at bare w count grows read =
+    let r = as_stage stage stages.Line pending body bytes at read in
+    let c : Chunk = record { line = line; data_bytes = octets } in
+    let is : IsChunk c = record { line = w.sized; size = w.size; some = w.some } in
+    let text = line_text line (line_text octets []) in
+    let parts : text ++ w.rest ≡ line_text line (line_text octets w.rest) = append_assoc line (13 ∷ 10 ∷ (octets ++ 13 ∷ 10 ∷ [])) w.rest ∙ ap (line_text line) (append_assoc octets (13 ∷ 10 ∷ []) w.rest) in
+    let size : length text ≡ n = omega (arith, length-append line (13 ∷ 10 ∷ (octets ++ 13 ∷ 10 ∷ [])), length-append octets (13 ∷ 10 ∷ [])) in
+    let taken : take n piece ≡ text = ap (take n) (w.text ∙ sym parts) ∙ take_at text w.rest n size in
+    let whole : r.tail ++ take n piece ≡ text = λ i. (r.keeps.0 ∙ bare) i ++ taken i in
+    let after : IsReadAs stages.Line pending body' (bytes ++ take n piece) =
+    record {
+      chunks = r.chunks ++ c ∷ [];
+      are = chunks_push r.chunks c r.are is;
+      got = [];
+      tail = [];
+      text = grown bytes (take n piece) r.chunks r.tail r.text ∙ ap (texts r.chunks) whole ∙ texts_push r.chunks c [];
+      body_is = grows ∙ ap (λ (b : List ℕ). b ++ octets) (r.body_is ∙ ap (λ (g : List ℕ). contents r.chunks ++ g) r.keeps.1 ∙ append-nil (contents r.chunks)) ∙ sym (contents_push r.chunks c) ∙ sym (append-nil (contents (r.chunks ++ c ∷ [])));
+      keeps = (sym bare, refl);
+    } in
+    as_stage stages.Line stage pending body' _ (sym at) after
+
+pub chunk_sound : (stage : Stage) (pending body body' octets : List ℕ) → stage ≡ stages.Line → IsSound stage pending body → body' ≡ body ++ octets → length octets ≤ 16777216 - length body → IsSound stage pending body'
+chunk_sound stage pending body body' octets at sound grows fits =
+    let before = sound_at stage stages.Line pending body at sound in
+    sound_at stages.Line stage pending body' (sym at) (record { small = omega (arith, before.small, ap length grows, length-append body octets); kept = before.kept })
 
 -- ---- the trailer
 

@@ -1,6 +1,6 @@
 pub mod Chunks
 pub mod Reader
-pub mod Steps
+pub mod Pieces
 pub mod Progress
 pub mod Lengths
 pub mod Written

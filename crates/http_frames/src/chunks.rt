@@ -4,7 +4,7 @@ ghost use Rattle.http_heads.specs.declared.field.Field.{Field};
 ghost use Rattle.http_frames.specs.Chunks.{Body};
 ghost use Rattle.http_frames.specs.Progress.{IsFed, Answers, phase_after};
 
-use crate::reader::{Reader, Step};
+use crate::reader::{Intake, Reader};
 use crate::{Frame, Phase};
 use http_heads::Fields;
 use kj_base::{Bytes, NoMemory};
@@ -22,7 +22,7 @@ pub struct Chunks {
 impl Model for Chunks {
     ghost use Rattle.std.specs.Prelude.{◌≡◌};
     ghost use Rattle.http_frames.specs.Progress.{Progress};
-    ghost use Rattle.http_frames.specs.Steps.{IsSoundReader};
+    ghost use Rattle.http_frames.specs.Pieces.{IsSoundReader};
     ghost use Rattle.http_frames.specs.declared.Phase.TheVariants.{Going};
 
     ghost Value = { Progress };
@@ -37,8 +37,16 @@ impl Chunks {
         ensures going { result.phase ≡ Phase.Going }
         ensures fed { IsFed result [] }
     {
+        Chunks::new_in(alloc, Bytes::new(alloc))
+    }
+
+    /// The same with the body in the memory of these octets, which are dropped.
+    pub fn new_in(alloc: Global, memory: Bytes) -> Chunks
+        ensures going { result.phase ≡ Phase.Going }
+        ensures fed { IsFed result [] }
+    {
         Chunks {
-            reader: Reader::new(alloc),
+            reader: Reader::new(alloc, memory),
             trailer: Fields::new(alloc),
             phase: Phase::Going,
         }
@@ -53,16 +61,16 @@ impl Chunks {
     {
         self.phase = Phase::Over;
         match self.reader.read(piece)? {
-            Step::Took(_) => {
+            Intake::Took(_) => {
                 self.phase = Phase::Going;
                 Ok(Frame::More)
             }
-            Step::Whole(trailer, count) => {
+            Intake::Whole(trailer, count) => {
                 self.trailer = trailer;
                 self.phase = Phase::Done;
                 Ok(Frame::Whole(count))
             }
-            Step::Bad => Ok(Frame::Bad),
+            Intake::Bad => Ok(Frame::Bad),
         }
     }
 

@@ -34,8 +34,18 @@ impl Lengths {
         ensures size { result.size ≡ n }
         ensures fed { IsFilledWith result [] }
     {
+        Lengths::new_in(Bytes::new(alloc), n)
+    }
+
+    /// The same in the memory of these octets, which are dropped.
+    pub fn new_in(mut memory: Bytes, n: u64) -> Lengths
+        ensures going { result.phase ≡ Phase.Going }
+        ensures size { result.size ≡ n }
+        ensures fed { IsFilledWith result [] }
+    {
+        memory.truncate(0);
         Lengths {
-            body: Bytes::new(alloc),
+            body: memory,
             size: n,
             phase: Phase::Going,
         }

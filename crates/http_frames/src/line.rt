@@ -1,7 +1,8 @@
 //! The line of a chunk (RFC 9112, sections 7.1 and 7.1.1, with limits of this project's own).
-ghost use Rattle.std.specs.Prelude.{◌≡◌, ◌≤◌, min, length, take, IsTrue};
+ghost use Rattle.std.specs.Prelude.{◌≡◌, ◌≤◌, min, false, length, IsTrue, IfSome, IfNone};
 ghost use Rattle.std.specs.List.{list_all, prefix_len};
 ghost use Rattle.std.specs.Char.{is_ascii_hexdigit};
+ghost use Rattle.std.specs.Str.Parse.{digits_value};
 ghost use Rattle.httparse.specs.Grammar.{is_value_byte};
 ghost use Rattle.http_frames.specs.Chunks.{digit_count, is_extension, is_size_line, size_of};
 
@@ -38,22 +39,37 @@ fn is_extension(text: &[u8]) -> bool
     }
 }
 
-/// Whether a line, without its CRLF, is one that a chunk begins with.
-pub fn is_size_line(line: &[u8]) -> bool
+/// Whether a line that begins with so many digits is one that a chunk begins with.
+fn is_sized(line: &[u8], count: usize) -> bool
+    requires count { count ≡ digit_count line.now }
+    requires bound { count ≤ length line.now }
     ensures { result ≡ is_size_line line.now }
 {
-    let count = digit_count(line);
     0 < count && count <= 16 && line.len() <= MAX_LINE && is_extension(trim_start(&line[count..]))
 }
 
-/// The number that the line begins with, or one too large where it is larger.
-pub fn size_of(line: &[u8]) -> u64
-    ensures { result ≡ min (size_of line.now) 16777217 }
+/// The number that the digits write, or one too large where it is larger.
+fn value_of(digits: &[u8]) -> u64
+    requires { IsTrue (list_all is_ascii_hexdigit digits.now) }
+    ensures { result ≡ min (digits_value 16 digits.now) 16777217 }
 {
     let mut size = 0;
-    for b in &line[..digit_count(line)] {
+    for b in digits {
         let digit = parse_hex_digit(*b).unwrap();
         size = (size * 16 + digit).min(OVER);
     }
     size
+}
+
+/// The number that a line, without its CRLF, begins with, or one too large where it is larger.
+/// None where no chunk begins with such a line.
+pub fn line_size(line: &[u8]) -> Option<u64>
+    ensures sized { IfSome result (λ size. IsTrue (is_size_line line.now) × (size ≡ min (size_of line.now) 16777217)) }
+    ensures no_size { IfNone result (is_size_line line.now ≡ false) }
+{
+    let count = digit_count(line);
+    if !is_sized(line, count) {
+        return None;
+    }
+    Some(value_of(&line[..count]))
 }

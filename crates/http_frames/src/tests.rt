@@ -53,13 +53,18 @@ fn feed_lengths(lengths: &mut Lengths, piece: &[u8]) -> Result<Frame, NoMemory>
     lengths.feed(piece)
 }
 
+/// Memory that had a body before.
+fn used(alloc: Global) -> Result<Bytes, NoMemory> {
+    Bytes::from_slice(alloc, b"a body before it")
+}
+
 fn read_chunks(
     alloc: Global,
     text: &[u8],
     start: usize,
     cuts: &[usize],
 ) -> Result<(Read, Bytes), NoMemory> {
-    let mut chunks = Chunks::new(alloc);
+    let mut chunks = Chunks::new_in(alloc, used(alloc)?);
     let mut at = start;
     for cut in cuts {
         match feed_chunks(&mut chunks, between(text, at, *cut))? {
@@ -81,7 +86,7 @@ fn read_length(
     size: u64,
     cuts: &[usize],
 ) -> Result<(Read, Bytes), NoMemory> {
-    let mut lengths = Lengths::new(alloc, size);
+    let mut lengths = Lengths::new_in(used(alloc)?, size);
     let mut at = start;
     for cut in cuts {
         match feed_lengths(&mut lengths, between(text, at, *cut))? {
@@ -101,6 +106,7 @@ fn read_cut(alloc: Global, text: &[u8], cuts: &[usize]) -> Result<(Read, Bytes),
     for (index, cut) in cuts.iter().enumerate() {
         match head_at_front(alloc, front_of(text, *cut))? {
             HeadRead::More => {}
+            HeadRead::Crowded => {}
             HeadRead::Bad => return Ok((Read::HeadBad, Bytes::new(alloc))),
             HeadRead::Whole(head, len) => {
                 let cuts = &cuts[index..];
@@ -371,6 +377,14 @@ fn fed_twice(alloc: Global, first: &[u8], second: &[u8]) -> Result<(Frame, Frame
         Frame::More => Ok((Frame::More, feed_chunks(&mut chunks, second)?)),
         other => Ok((other, other)),
     }
+}
+
+#[test]
+fn lengths_are_fed(rt: HostRuntime) -> Result<(), Fail> {
+    let mut lengths = Lengths::new(rt.alloc(), 3);
+    assert!(rt; feed_lengths(&mut lengths, b"ab")? == Frame::More);
+    assert!(rt; feed_lengths(&mut lengths, b"cd")? == Frame::Whole(1));
+    Ok(())
 }
 
 #[test]

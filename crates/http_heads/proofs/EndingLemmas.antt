@@ -18,7 +18,7 @@ IsInside b = (b ≢ 10) × (b ≢ 13)
 
 -- ---- tests at an index
 
-start_at_cr : (bytes : List ℕ) (k : ℕ) → get_or bytes k 0 ≡ 13 → line_end_start bytes (k + 1) ≡ k
+pub start_at_cr : (bytes : List ℕ) (k : ℕ) → get_or bytes k 0 ≡ 13 → line_end_start bytes (k + 1) ≡ k
 start_at_cr bytes k cr =
     let one : k + 1 - 1 ≡ k = omega arith in
     rw one (rw (eq-eqb (get_or bytes k 0) 13 cr) (by_test (nat_lt 0 (k + 1)) (grind (arith, nat_tests))))
@@ -27,7 +27,7 @@ start_at_cr bytes k cr =
     by_test true h = refl
     by_test false h = cc
 
-start_at_lf : (bytes : List ℕ) (k : ℕ) → get_or bytes k 0 ≢ 13 → line_end_start bytes (k + 1) ≡ k + 1
+pub start_at_lf : (bytes : List ℕ) (k : ℕ) → get_or bytes k 0 ≢ 13 → line_end_start bytes (k + 1) ≡ k + 1
 start_at_lf bytes k other =
     let one : k + 1 - 1 ≡ k = omega arith in
     rw one (rw (ne_eqb (get_or bytes k 0) 13 other) (by_test (nat_lt 0 (k + 1))))
@@ -36,7 +36,7 @@ start_at_lf bytes k other =
     by_test true = refl
     by_test false = refl
 
-above : (k : ℕ) → nat_lt 0 (k + 1) ≡ true
+pub above : (k : ℕ) → nat_lt 0 (k + 1) ≡ true
 above k = grind (arith, nat_tests)
 
 lines_by : (bytes : List ℕ) (k start before : ℕ) → line_end_start bytes k ≡ start + 1 → get_or bytes k 0 ≡ 10 → get_or bytes start 0 ≡ 10 → line_end_start bytes start ≡ before + 1 → get_or bytes before 0 ≢ 10 → ends_lines bytes k ≡ true
@@ -71,7 +71,7 @@ ends_by bytes len k start before len_is starts here there begins other =
       empty = subst (λ (j : ℕ). ends_empty_line bytes j ≡ true) place (empty_by bytes k start starts here there);
     }
 
-read : (bytes front ys : List ℕ) (i j : ℕ) → bytes ≡ front ++ ys → j ≡ length front + i → get_or bytes j 0 ≡ get_or ys i 0
+pub read : (bytes front ys : List ℕ) (i j : ℕ) → bytes ≡ front ++ ys → j ≡ length front + i → get_or bytes j 0 ≡ get_or ys i 0
 read bytes front ys i j text place = (λ t. get_or (text t) (place t) 0) ∙ get_or-append-add front ys i 0
 
 ends_behind : (bytes front : List ℕ) (b : ℕ) (e last : LineEnd) (rest : List ℕ) (len : ℕ) → IsInside b → bytes ≡ front ++ b ∷ (print_end e ++ (print_end last ++ rest)) → len ≡ length front + 1 + length (print_end e) + length (print_end last) → EndsAt bytes len
@@ -194,7 +194,7 @@ section_ends bytes fields len rest has = elim (lines_end has.lines has.reads.0) 
         (has.len_is ∙ ap (λ (ls : List Line). length (print_section ls has.last)) none)
 
 -- the start line ends with the version's digit
-start_line : (before : List ℕ) (minor : ℕ) (end : LineEnd) → minor ≤ 1 → EndsLine ((before ++ 32 ∷ print_version minor) ++ print_end end)
+pub start_line : (before : List ℕ) (minor : ℕ) (end : LineEnd) → minor ≤ 1 → EndsLine ((before ++ 32 ∷ print_version minor) ++ print_end end)
 start_line before minor end small = record {
   front = before ++ 32 ∷ codes "HTTP/1.";
   octet = 48 + minor;

@@ -70,7 +70,7 @@ list_any_seen p es e = sym (ap (list_any p) (map_push (λ (x : Bor (List ℕ)). 
 pub ends_chunked_seen : (es : List (Bor (List ℕ))) (e : Bor (List ℕ)) → is_chunked e.now ≡ ends_chunked (seen (es ++ e ∷ []))
 ends_chunked_seen es e = sym (ap ends_chunked (map_push (λ (x : Bor (List ℕ)). x.now) es e) ∙ ends_chunked_push (seen es) e.now)
 
-any_from_count : {X : Type 0} (p : X → Bool) (xs : List X) → list_any p xs ≡ nat_lt 0 (count_by p xs)
+pub any_from_count : {X : Type 0} (p : X → Bool) (xs : List X) → list_any p xs ≡ nat_lt 0 (count_by p xs)
 any_from_count p [] = refl
 any_from_count p (x ∷ xs) = by_test (p x) (any_from_count p xs) ∙ ap (nat_lt 0) (sym (sum_by-cons (λ y. cond (p y) 1 0) x xs))
   where
@@ -78,7 +78,7 @@ any_from_count p (x ∷ xs) = by_test (p x) (any_from_count p xs) ∙ ap (nat_lt
     by_test true h = grind (arith, nat_tests)
     by_test false h = h ∙ ap (nat_lt 0) (omega arith)
 
-twice_by_number : (n : ℕ) (t : Bool) → (nat_lt 1 n || (nat_lt 0 n && t)) ≡ nat_lt 1 (n + cond t 1 0)
+pub twice_by_number : (n : ℕ) (t : Bool) → (nat_lt 1 n || (nat_lt 0 n && t)) ≡ nat_lt 1 (n + cond t 1 0)
 twice_by_number zero true = refl
 twice_by_number zero false = refl
 twice_by_number (suc zero) true = refl

@@ -1,5 +1,5 @@
 -- Where a head or a section can end: with an empty line.
-use Rattle.std.specs.Prelude.{ℕ, ◌-◌, Bool, not, ◌&&◌, ◌||◌, List, ◌==◌, nat_lt, slice_index, if◌then◌else◌}
+use Rattle.std.specs.Prelude.{◌≡◌, ℕ, ◌-◌, ◌<◌, Bool, true, false, not, ◌&&◌, ◌||◌, List, length, ◌==◌, nat_lt, slice_index, if◌then◌else◌}
 
 -- where the line end begins whose LF stands at k: at its CR, if it has one
 abbrev pub line_end_start : List ℕ → ℕ → ℕ
@@ -17,3 +17,20 @@ ends_lines bytes k =
     let start = line_end_start bytes k in
     let before = line_end_start bytes (start - 1) in
     (slice_index bytes k == 10) && ((nat_lt 0 start && (slice_index bytes (start - 1) == 10)) && (nat_lt 0 before && not (slice_index bytes (before - 1) == 10)))
+
+-- an octet of a first line: none of the control octets but CR
+abbrev pub is_plain : ℕ → Bool
+is_plain b = nat_lt 31 b || (b == 13)
+
+-- the octet at k ends a line that has octets, or is neither plain nor LF
+abbrev pub stops_line : List ℕ → ℕ → Bool
+stops_line bytes k =
+    let start = line_end_start bytes k in
+    if slice_index bytes k == 10 then nat_lt 0 start && not (slice_index bytes (start - 1) == 10)
+    else not (is_plain (slice_index bytes k))
+
+-- the first such octet: there the first line that has octets ends, or can't be one
+pub record IsFirstStop (bytes : List ℕ) (k : ℕ) : Type 0 where
+  pub inside : k < length bytes
+  pub stops : stops_line bytes k ≡ true
+  pub first : (j : ℕ) → j < k → stops_line bytes j ≡ false

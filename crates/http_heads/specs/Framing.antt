@@ -3,6 +3,7 @@ use Rattle.std.specs.Prelude.{ℕ, Bool, true, false, not, ◌&&◌, ◌||◌, L
 use Rattle.std.specs.List.{list_all, list_any}
 use Rattle.std.specs.Char.{is_ascii_digit}
 use Rattle.std.specs.Str.Parse.{digits_value}
+use Rattle.http_heads.specs.declared.field.Field.{Field}
 use Rattle.http_heads.specs.declared.field.Head.{Head}
 use Rattle.http_heads.specs.declared.Framing.{Framing}
 use Rattle.http_heads.specs.declared.Framing.TheVariants.{Empty, Length, Chunked, Fault}
@@ -53,13 +54,17 @@ framing_of h =
     else (if sized then length_of (list_of (codes "content-length") h.fields)
     else Empty))))
 
--- the connection goes on after the request
-unfoldable pub persists : Head → Bool
-persists h =
-    let options = list_of (codes "connection") h.fields in
+-- the connection goes on after a message of this version with these fields
+unfoldable pub persists_by : ℕ → List Field → Bool
+persists_by minor fields =
+    let options = list_of (codes "connection") fields in
     if list_any (λ e. is_same e (codes "close")) options then false
-    else (if h.minor == 1 then true
+    else (if minor == 1 then true
     else list_any (λ e. is_same e (codes "keep-alive")) options)
+
+-- the connection goes on after the request
+abbrev pub persists : Head → Bool
+persists h = persists_by h.minor h.fields
 
 -- `length_of`, one element at a time
 abbrev pub add_length : Sizes → List ℕ → Sizes

@@ -1,10 +1,14 @@
 -- A request's head, as the parser's grammar has it, of at most so many octets and fields (RFC 9112, sections 2, 3 and 5).
-use Rattle.std.specs.Prelude.{◌≡◌, ℕ, ◌<◌, ◌≤◌, List, ◌++◌, length, map}
-use Rattle.httparse.specs.Grammar.{RequestHead, IsRequestHead, print_request, ReadsRequest, NeverHasRequest}
+use Rattle.std.specs.Prelude.{◌≡◌, ℕ, ◌+◌, ◌<◌, ◌≤◌, List, ◌++◌, length, take, map, ⊤}
+use Rattle.httparse.specs.Grammar.{RequestHead, IsRequestHead, print_request, ReadsRequest, HasNoRequest, NeverHasRequest, MayBecomeRequest}
+use Rattle.httparse.specs.Spans.{RequestOverflows, RequestExceeds}
 use Rattle.http_heads.specs.Section.{field_of}
 use Rattle.http_heads.specs.declared.field.Head.{Head}
 use Rattle.http_heads.specs.declared.HeadRead.{HeadRead}
-use Rattle.http_heads.specs.declared.HeadRead.TheVariants.{Whole, More, Bad}
+use Rattle.http_heads.specs.declared.HeadRead.TheVariants.{Whole, More, Crowded, Bad}
+use Rattle.http_heads.specs.declared.HeadFill.{HeadFill}
+use Rattle.http_heads.specs.declared.HeadFill.TheVariants as fills
+use Rattle.http_heads.specs.Ending.{IsFirstStop}
 
 -- the parts of a head that a request keeps
 abbrev pub head_of : RequestHead → Head
@@ -34,15 +38,35 @@ HasNoHead bytes = (head : Head) (len : ℕ) → StartsWithHead bytes head len �
 abbrev pub NeverHasHead : List ℕ → Type 0
 NeverHasHead bytes = (more : List ℕ) → HasNoHead (bytes ++ more)
 
+-- up to the end of their first line the octets may still become a head
+abbrev pub StartsWell : List ℕ → Type 0
+StartsWell bytes = (k : ℕ) → IsFirstStop bytes k → NeverHasHead (take (k + 1) bytes) → ⊥
+
 -- what an answer says of the octets
 abbrev pub Reads : List ℕ → HeadRead → Type 0
 Reads bytes (Whole head len) = StartsWithHead bytes head len
 Reads bytes More = HasNoHead bytes
+Reads bytes Crowded = NeverHasHead bytes
 Reads bytes Bad = NeverHasHead bytes
 
--- the same of heads of any length
-abbrev pub Parses : List ℕ → HeadRead → Type 0
-Parses bytes (Whole head len) =
+-- where an answer is neither a head nor a refusal
+abbrev pub GoesOn : List ℕ → HeadRead → Type 0
+GoesOn bytes (Whole head len) = ⊤
+GoesOn bytes More = (length bytes < 65536) × StartsWell bytes
+GoesOn bytes Crowded = (length bytes < 65536) × StartsWell bytes
+GoesOn bytes Bad = ⊤
+
+-- the same answer, with the head that was read into
+abbrev pub read_of : Head → HeadFill → HeadRead
+read_of head (fills.Whole len) = Whole head len
+read_of head fills.More = More
+read_of head fills.Crowded = Crowded
+read_of head fills.Bad = Bad
+
+-- what parsing says of octets of any number
+abbrev pub Parses : List ℕ → Head → HeadFill → Type 0
+Parses bytes head (fills.Whole len) =
     (tree : RequestHead) × (rest : List ℕ) × ReadsRequest bytes tree rest × (length tree.fields ≤ 100) × (head ≡ head_of tree) × (len ≡ length (print_request tree))
-Parses bytes More = (tree : RequestHead) (rest : List ℕ) → ReadsRequest bytes tree rest → 100 < length tree.fields
-Parses bytes Bad = NeverHasRequest bytes
+Parses bytes head fills.More = HasNoRequest bytes × MayBecomeRequest bytes
+Parses bytes head fills.Crowded = RequestOverflows 100 bytes × RequestExceeds 100 bytes
+Parses bytes head fills.Bad = NeverHasRequest bytes

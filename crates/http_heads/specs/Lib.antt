@@ -4,3 +4,4 @@ pub mod Left
 pub mod Section
 pub mod Heads
 pub mod Ending
+pub mod Marks

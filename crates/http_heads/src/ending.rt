@@ -1,6 +1,6 @@
 //! Where a head or a section can end, so that it is read only when it may be whole.
-ghost use Rattle.std.specs.Prelude.{◌≡◌, ℕ, ◌≤◌, ◌<◌, true, false, length};
-ghost use Rattle.http_heads.specs.Ending.{line_end_start, ends_empty_line, ends_lines};
+ghost use Rattle.std.specs.Prelude.{◌≡◌, ℕ, ◌≤◌, ◌<◌, ◌++◌, true, false, length, IfSome, IfNone};
+ghost use Rattle.http_heads.specs.Ending.{line_end_start, ends_empty_line, ends_lines, is_plain, stops_line};
 ghost use Rattle.http_heads.specs.Heads.{StartsWithHead};
 ghost use Rattle.http_heads.specs.Section.{StartsWithSection};
 ghost use Rattle.http_heads.specs.declared.field.Field.{Field};
@@ -86,3 +86,48 @@ pub fn brings_head(bytes: &[u8], from: usize) -> bool
     }
     false
 }
+
+fn is_plain(octet: u8) -> bool
+    ensures { result ≡ is_plain octet }
+{
+    octet > 31 || octet == b'\r'
+}
+
+fn stops_line(bytes: &[u8], k: usize) -> bool
+    requires { k < length bytes.now }
+    ensures { result ≡ stops_line bytes.now k }
+{
+    if bytes[k] != b'\n' {
+        return !is_plain(bytes[k]);
+    }
+    let start = line_end_start(bytes, k);
+    if start == 0 {
+        return false;
+    }
+    bytes[start - 1] != b'\n'
+}
+
+/// Where, from the given octet on, the first line of a head that has octets ends, or first has a
+/// control octet, which can be in none.
+pub fn first_stop(bytes: &[u8], from: usize) -> Option<usize>
+    ensures stops { IfSome result (λ k. (from ≤ k) × (k < length bytes.now) × (stops_line bytes.now k ≡ true)) }
+    ensures first { IfSome result (λ k. (j : ℕ) → from ≤ j → j < k → stops_line bytes.now j ≡ false) }
+    ensures none { IfNone result ((k : ℕ) → from ≤ k → k < length bytes.now → stops_line bytes.now k ≡ false) }
+{
+    for k in from..bytes.len() {
+        if stops_line(bytes, k) {
+            return Some(k);
+        }
+    }
+    None
+}
+
+/// More octets change no stop.
+pub fn stop_stays()
+    ensures { (bytes more : List ℕ) (k : ℕ) → k < length bytes → stops_line (bytes ++ more) k ≡ stops_line bytes k }
+{}
+
+/// The first line of a head stops.
+pub fn head_has_stop()
+    ensures { (bytes : List ℕ) (head : Head) (len : ℕ) → StartsWithHead bytes head len → (k : ℕ) × (k < len) × (stops_line bytes k ≡ true) }
+{}

@@ -12,19 +12,51 @@ pub struct Field {
     pub value: Bytes,
 }
 
-/// Field lines in their order, which contracts see as a list.
+impl Field {
+    pub fn new(alloc: Global) -> Field
+        ensures name { result.name ≡ [] }
+        ensures value { result.value ≡ [] }
+    {
+        Field {
+            name: Bytes::new(alloc),
+            value: Bytes::new(alloc),
+        }
+    }
+
+    fn refill(&mut self, name: &[u8], value: &[u8]) -> Result<(), NoMemory>
+        ensures name { OnOk result (self.new.name ≡ name.now) }
+        ensures value { OnOk result (self.new.value ≡ value.now) }
+    {
+        refill(&mut self.name, name)?;
+        refill(&mut self.value, value)
+    }
+}
+
+/// Other octets, in the same memory where there is room.
+pub(crate) fn refill(bytes: &mut Bytes, octets: &[u8]) -> Result<(), NoMemory>
+    ensures { OnOk result (bytes.new ≡ octets.now) }
+{
+    bytes.truncate(0);
+    bytes.extend(octets)
+}
+
+/// Field lines in their order, which contracts see as a list. Behind them it keeps the memory of
+/// fields that it had before.
 #[derive(Debug, Drop)]
 pub struct Fields {
     items: Vec<Field>,
+    count: usize,
 }
 
 impl Model for Fields {
-    ghost use Rattle.std.specs.Prelude.{List};
+    ghost use Rattle.std.specs.Prelude.{List, ◌≤◌, take, length};
     ghost use Rattle.http_heads.specs.declared.field.Field.{Field};
 
     ghost Value = { List Field };
 
-    ghost view = { λ f. f.items.items };
+    ghost view = { λ f. take f.count f.items.items };
+
+    ghost invariant = { λ f. f.count ≤ length f.items.items };
 }
 
 impl Fields {
@@ -33,6 +65,7 @@ impl Fields {
     {
         Fields {
             items: Vec::new(alloc),
+            count: 0,
         }
     }
 
@@ -40,27 +73,57 @@ impl Fields {
     pub fn from_vec(items: Vec<Field>) -> Fields
         ensures { result ≡ items.items }
     {
-        Fields { items }
+        let count = items.len();
+        Fields { items, count }
     }
 
     /// Takes no memory.
-    pub fn into_vec(self) -> Vec<Field>
+    pub fn into_vec(mut self) -> Vec<Field>
         ensures { result.items ≡ self }
     {
+        self.items.truncate(self.count);
         self.items
     }
 
     pub fn as_slice(&self) -> &[Field]
         ensures { result.now ≡ self.now }
     {
-        self.items.as_slice()
+        &self.items[..self.count]
     }
 
     pub fn push(&mut self, field: Field) -> Result<(), NoMemory>
         ensures ok { OnOk result (self.new ≡ self.old ++ field ∷ []) }
         ensures err { OnErr result (self.new ≡ self.old) }
     {
+        self.items.truncate(self.count);
         self.items.push(field)?;
+        self.count += 1;
+        Ok(())
+    }
+
+    /// Takes the fields away, and keeps their memory.
+    pub fn clear(&mut self)
+        ensures { self.new ≡ [] }
+    {
+        self.count = 0;
+    }
+
+    /// Copies a field behind the others, into memory that is kept where there is some.
+    pub(crate) fn append(
+        &mut self,
+        alloc: Global,
+        name: &[u8],
+        value: &[u8],
+    ) -> Result<(), NoMemory>
+        ensures ok { OnOk result (self.new ≡ self.old ++ record { name = name.now; value = value.now } ∷ []) }
+        ensures err { OnErr result (self.new ≡ self.old) }
+    {
+        if self.count == self.items.len() {
+            self.items.push(Field::new(alloc))?;
+        }
+        let field = &mut self.items[self.count];
+        field.refill(name, value)?;
+        self.count += 1;
         Ok(())
     }
 }
@@ -73,4 +136,16 @@ pub struct Head {
     pub target: Bytes,
     pub minor: u8,
     pub fields: Fields,
+}
+
+impl Head {
+    /// The head of no request: its parts are empty.
+    pub fn new(alloc: Global) -> Head {
+        Head {
+            method: Bytes::new(alloc),
+            target: Bytes::new(alloc),
+            minor: 0,
+            fields: Fields::new(alloc),
+        }
+    }
 }

@@ -6,16 +6,17 @@ mod ending;
 mod field;
 mod front;
 mod list;
+mod marks;
 mod read;
 pub mod rules;
 mod section;
 pub mod text;
 
-pub use ending::{brings_head, brings_section};
+pub use ending::{brings_head, brings_section, first_stop, head_has_stop, stop_stays};
 pub use field::{Field, Fields, Head};
 pub use front::{MAX_OCTETS, front_of};
 pub use list::values_join;
-pub use read::{head_stays, one_head, read_head};
+pub use read::{fill_head, head_stays, one_head, read_head};
 pub use section::{one_section, read_section, section_stays};
 
 /// What the front of a stream is, read as the head of a request.
@@ -25,7 +26,19 @@ pub enum HeadRead {
     Whole(Head, usize),
     /// No prefix is a head yet.
     More,
+    /// More fields than a head may have: whatever follows, no prefix becomes a head.
+    Crowded,
     /// Whatever follows, no prefix becomes a head.
+    Bad,
+}
+
+/// The same of a head that is read into one that is there.
+#[derive(Clone, Copy, Debug, PartialEq, Eq)]
+pub enum HeadFill {
+    /// How many octets the head has.
+    Whole(usize),
+    More,
+    Crowded,
     Bad,
 }
 
@@ -54,6 +67,14 @@ pub enum Framing {
     Chunked,
     /// There is no safe framing: the status to answer with.
     Fault(u16),
+}
+
+/// What the version and the fields of a request say of what follows its head.
+#[derive(Clone, Copy, Debug, PartialEq, Eq)]
+pub struct MessageRules {
+    pub framing: Framing,
+    /// Whether the connection goes on after it.
+    pub persists: bool,
 }
 
 #[cfg(test)]

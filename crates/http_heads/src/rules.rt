@@ -3,19 +3,23 @@ ghost use Rattle.std.specs.List.{list_all, list_any};
 ghost use Rattle.std.specs.Char.{is_ascii_digit};
 ghost use Rattle.std.specs.Str.Parse.{digits_value};
 ghost use Rattle.http_heads.specs.Values.{is_same, is_named, list_of};
-ghost use Rattle.http_heads.specs.Framing.{is_chunked, coding_of, is_length, length_of, add_length, framing_by, framing_of, persists};
+ghost use Rattle.http_heads.specs.Framing.{is_chunked, coding_of, is_length, length_of, add_length, framing_by, framing_of, persists_by, persists};
+ghost use Rattle.http_heads.specs.Marks.{IsMarked, framing_by_marks};
 
-use crate::Framing;
 use crate::field::{Field, Head};
 use crate::list::{Elements, is_named, is_same};
+use crate::marks::{Marks, marks_of};
+use crate::{Framing, MessageRules};
 
-fn has(name: &[u8], fields: &[Field]) -> bool
+/// Whether there is a field of this name.
+pub fn has_field(name: &[u8], fields: &[Field]) -> bool
     ensures { result ≡ list_any (is_named name.now) fields.now }
 {
     fields.iter().any(|field| is_named(name, field))
 }
 
-fn count(name: &[u8], fields: &[Field]) -> usize
+/// How many fields of this name there are.
+pub fn count_fields(name: &[u8], fields: &[Field]) -> usize
     ensures { result ≡ count_by (is_named name.now) fields.now }
 {
     fields.iter().filter(|field| is_named(name, field)).count()
@@ -32,18 +36,26 @@ fn has_option(option: &[u8], fields: &[Field]) -> bool
     found
 }
 
-#[tactic(auto, unfolding(crate::specs::Framing::persists))]
-pub fn persists(head: &Head) -> bool
-    ensures { result ≡ persists head.now }
+/// Whether the connection goes on after a message of this version with these fields
+/// (RFC 9112, section 9.3).
+#[tactic(auto, unfolding(crate::specs::Framing::persists_by))]
+pub fn persists_by(minor: u8, fields: &[Field]) -> bool
+    ensures { result ≡ persists_by minor fields.now }
 {
-    let fields = head.fields.as_slice();
     if has_option(b"close", fields) {
         false
-    } else if head.minor == 1 {
+    } else if minor == 1 {
         true
     } else {
         has_option(b"keep-alive", fields)
     }
+}
+
+/// Whether the connection goes on after a request with this head.
+pub fn persists(head: &Head) -> bool
+    ensures { result ≡ persists head.now }
+{
+    persists_by(head.minor, head.fields.as_slice())
 }
 
 fn is_chunked(element: &[u8]) -> bool
@@ -52,7 +64,9 @@ fn is_chunked(element: &[u8]) -> bool
     is_same(element, b"chunked")
 }
 
-fn coding(fields: &[Field]) -> Framing
+/// How the list of Transfer-Encoding delimits a body (RFC 9112, sections 6.1 and 6.3): 400 where it
+/// does not end with `chunked` or has it twice, 501 where it has another coding too.
+pub fn transfer_coding(fields: &[Field]) -> Framing
     ensures { result ≡ coding_of (list_of (codes "transfer-encoding") fields.now) }
 {
     let mut last = false;
@@ -146,38 +160,70 @@ fn framing_by(sizes: Sizes) -> Framing
     }
 }
 
-fn sized(fields: &[Field]) -> Framing
+/// How the list of Content-Length delimits a body (RFC 9112, section 6.3): 400 where it has no
+/// number, unequal ones, or one above the limit of a body.
+pub fn content_length(fields: &[Field]) -> Framing
     ensures { result ≡ length_of (list_of (codes "content-length") fields.now) }
 {
     framing_by(sizes_of(fields))
 }
 
-/// How the body of a request is delimited: the first case that holds.
-#[tactic(auto, unfolding(crate::specs::Framing::framing_of))]
-pub fn framing(head: &Head) -> Framing
-    ensures { result ≡ framing_of head.now }
+/// The framing, where it is known which fields there are.
+fn framing_by_marks(head: &Head, marks: Marks) -> Framing
+    ensures { result ≡ framing_by_marks head.now marks }
 {
     let fields = head.fields.as_slice();
-    let hosts = count(b"host", fields);
-    if hosts > 1 {
+    if marks.hosts {
         return Framing::Fault(400);
     }
-    if hosts == 0 && head.minor == 1 {
+    if !marks.host && head.minor == 1 {
         return Framing::Fault(400);
     }
     if head.method.as_slice() == b"CONNECT".as_slice() {
         return Framing::Fault(501);
     }
-    let has_length = has(b"content-length", fields);
-    if has(b"transfer-encoding", fields) {
-        if head.minor == 0 || has_length {
+    if marks.coded {
+        if head.minor == 0 || marks.sized {
             Framing::Fault(400)
         } else {
-            coding(fields)
+            transfer_coding(fields)
         }
-    } else if has_length {
-        sized(fields)
+    } else if marks.sized {
+        content_length(fields)
     } else {
         Framing::Empty
+    }
+}
+
+/// How the body of a request is delimited: the first case that holds.
+pub fn framing(head: &Head) -> Framing
+    ensures { result ≡ framing_of head.now }
+{
+    framing_by_marks(head, marks_of(head.fields.as_slice()))
+}
+
+/// Both, by one pass over the fields where few of them are lists.
+pub fn rules_of(head: &Head) -> MessageRules
+    ensures framing { result.framing ≡ framing_of head.now }
+    ensures persists { result.persists ≡ persists head.now }
+{
+    let fields = head.fields.as_slice();
+    let marks = marks_of(fields);
+    let persists = persists_by_marks(head.minor, fields, marks);
+    MessageRules {
+        framing: framing_by_marks(head, marks),
+        persists,
+    }
+}
+
+/// Whether the connection goes on, where it is known which fields there are.
+fn persists_by_marks(minor: u8, fields: &[Field], marks: Marks) -> bool
+    requires { IsMarked fields.now marks }
+    ensures { result ≡ persists_by minor fields.now }
+{
+    if marks.optioned {
+        persists_by(minor, fields)
+    } else {
+        minor == 1
     }
 }

@@ -1,34 +1,34 @@
 //! Sections of header fields: the lines of a head behind its start line, or a trailer.
-ghost use Rattle.std.specs.Prelude.{◌≡◌, ◌<◌, List, ℕ, ◌++◌, length, take, map, IfOk, Ok};
+ghost use Rattle.std.specs.Prelude.{◌≡◌, ◌<◌, List, ℕ, ◌++◌, length, take, map, IfOk, OnOk, Ok};
 ghost use Rattle.httparse.specs.Spans.{IsSectionWithin, header_bytes};
+ghost use Rattle.http_heads.specs.declared.field.Field.{Field};
 ghost use Rattle.http_heads.specs.Section.{ReadsAs, ParsesAs, StartsWithSection, name_and_value};
 
 use crate::SectionRead;
-use crate::field::{Field, Fields};
+use crate::field::Fields;
 use crate::front::{MAX_FIELDS, MAX_OCTETS, front_of};
 use httparse::spans::{EMPTY_HEADER_SPAN, HeaderSpan, parse_headers};
 use httparse::{Error, Status};
-use kj_base::{Bytes, NoMemory};
+use kj_base::NoMemory;
 use std::alloc::Global;
 
 /// Copies the fields that the first spans cover.
-pub fn fields_of(
+pub(crate) fn fill_fields(
     alloc: Global,
+    fields: &mut Fields,
     bytes: &[u8],
     spans: &[HeaderSpan],
     count: usize,
-) -> Result<Fields, NoMemory>
+) -> Result<(), NoMemory>
     requires { IsSectionWithin bytes.now spans.now (length bytes.now) count }
-    ensures { IfOk result (λ fields. map name_and_value fields ≡ map (header_bytes bytes.now) (take count spans.now)) }
+    ensures { OnOk result (map name_and_value fields.new ≡ map (header_bytes bytes.now) (take count spans.now)) }
 {
-    let mut fields = Fields::new(alloc);
+    fields.clear();
     for i in 0..count {
         let span = spans[i];
-        let name = Bytes::from_slice(alloc, span.name.of(bytes))?;
-        let value = Bytes::from_slice(alloc, span.value.of(bytes))?;
-        fields.push(Field { name, value })?;
+        fields.append(alloc, span.name.of(bytes), span.value.of(bytes))?;
     }
-    Ok(fields)
+    Ok(())
 }
 
 /// Reads a section of any length.
@@ -38,7 +38,8 @@ fn parse(alloc: Global, bytes: &[u8]) -> Result<SectionRead, NoMemory>
     let mut spans = [EMPTY_HEADER_SPAN; MAX_FIELDS];
     match parse_headers(bytes, &mut spans) {
         Ok(Status::Complete((len, count))) => {
-            let fields = fields_of(alloc, bytes, &spans, count)?;
+            let mut fields = Fields::new(alloc);
+            fill_fields(alloc, &mut fields, bytes, &spans, count)?;
             Ok(SectionRead::Whole(fields, len))
         }
         Ok(Status::Partial) => Ok(SectionRead::More),

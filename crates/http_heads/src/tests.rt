@@ -1,10 +1,11 @@
 //! Heads that are read, and what they say.
-use crate::rules::{framing, persists};
+use crate::rules::{framing, persists, rules_of};
 use crate::{
-    Field, Fields, Framing, HeadRead, SectionRead, brings_head, brings_section, read_head,
-    read_section, text,
+    Field, Fields, Framing, Head, HeadFill, HeadRead, SectionRead, brings_head, brings_section,
+    fill_head, first_stop, read_head, read_section, text,
 };
-use kj_base::Bytes;
+use kj_base::{Bytes, NoMemory};
+use std::alloc::Global;
 use std::test::Fail;
 
 /// Why, the head, how its body is delimited, and whether the connection goes on after it.
@@ -152,8 +153,12 @@ fn heads_frame_and_persist(rt: HostRuntime) -> Result<(), Fail> {
                 assert!(rt; len == head.len(), "{reason}");
                 assert!(rt; framing(&read) == *want, "{reason}");
                 assert!(rt; persists(&read) == *goes_on, "{reason}");
+                let rules = rules_of(&read);
+                assert!(rt; rules.framing == *want, "{reason}");
+                assert!(rt; rules.persists == *goes_on, "{reason}");
             }
             HeadRead::More => assert!(rt; false, "{reason}"),
+            HeadRead::Crowded => assert!(rt; false, "{reason}"),
             HeadRead::Bad => assert!(rt; false, "{reason}"),
         }
     }
@@ -180,6 +185,7 @@ fn parts_of_heads_and_sections(rt: HostRuntime) -> Result<(), Fail> {
             assert!(rt; Fields::from_vec(fields).as_slice().len() == 2);
         }
         HeadRead::More => assert!(rt; false),
+        HeadRead::Crowded => assert!(rt; false),
         HeadRead::Bad => assert!(rt; false),
     }
     match read_section(rt.alloc(), b"T: 1\r\n\nrest")? {
@@ -227,4 +233,68 @@ fn empty_lines_are_found(rt: HostRuntime) {
         assert!(rt; brings_head(octets, *from) == *head);
         assert!(rt; brings_section(octets, *from) == *section);
     }
+}
+
+/// Octets, where their first line stops, and whether they may still become a head.
+static FIRST_LINES: [(&[u8], Option<usize>, bool); 13] = [
+    (b"GET / HTTP/1.1\r\n", Some(15), true),
+    (b"GET / HTTP/1.0\nA: b", Some(14), true),
+    (b"\n\r\n\nGET / HTTP/1.1\n", Some(18), true),
+    (b"GET / HTTP/1.1\r", None, true),
+    (b"\r", None, true),
+    (b"\r\n\n", None, true),
+    (b"HELLO\n", Some(5), false),
+    (b"\nHELLO\n", Some(6), false),
+    (b"GET / HTTP/2.0\r\n", Some(15), false),
+    (b"GET  / HTTP/1.1\r\n", Some(16), false),
+    // The beginning of a TLS hello.
+    (b"\x16\x03\x01", Some(0), false),
+    (b"GET\0", Some(3), false),
+    (b"GET\t/ HTTP/1.1", Some(3), false),
+];
+
+#[test]
+fn first_lines_are_looked_at(rt: HostRuntime) -> Result<(), Fail> {
+    for (octets, stop, may) in FIRST_LINES.iter() {
+        assert!(rt; first_stop(octets, 0) == *stop);
+        let read = read_head(rt.alloc(), octets)?;
+        assert!(rt; matches!(read, HeadRead::More) == *may);
+        assert!(rt; matches!(read, HeadRead::Bad) != *may);
+    }
+    Ok(())
+}
+
+/// A head with so many fields.
+fn head_of(alloc: Global, count: usize) -> Result<Bytes, NoMemory> {
+    let mut head = Bytes::from_slice(alloc, b"GET / HTTP/1.0\r\n")?;
+    for _ in 0..count {
+        head.extend(b"Name: value\r\n")?;
+    }
+    head.extend(b"\r\n")?;
+    Ok(head)
+}
+
+// The call without its clauses, which no test cites.
+fn fill(alloc: Global, head: &mut Head, octets: &[u8]) -> Result<HeadFill, NoMemory> {
+    fill_head(alloc, head, octets)
+}
+
+#[test]
+fn one_head_is_used_for_many(rt: HostRuntime) -> Result<(), Fail> {
+    let mut head = Head::new(rt.alloc());
+    for count in [2_usize, 100, 0, 32, 33, 1].iter() {
+        let octets = head_of(rt.alloc(), *count)?;
+        let filled = fill(rt.alloc(), &mut head, octets.as_slice())?;
+        assert!(rt; filled == HeadFill::Whole(octets.len()));
+        let fields = head.fields.as_slice();
+        assert!(rt; fields.len() == *count);
+        for field in fields {
+            assert!(rt; field.name.as_slice() == b"Name".as_slice());
+            assert!(rt; field.value.as_slice() == b"value".as_slice());
+        }
+    }
+    let crowd = head_of(rt.alloc(), 101)?;
+    assert!(rt; fill(rt.alloc(), &mut head, crowd.as_slice())? == HeadFill::Crowded);
+    assert!(rt; matches!(read_head(rt.alloc(), crowd.as_slice())?, HeadRead::Crowded));
+    Ok(())
 }

@@ -1,12 +1,13 @@
 use Rattle.std.proofs.Common.{[], ◌++◌, refl, sym, ◌∙◌}
-use Rattle.http_core.specs.declared.read.Step.TheVariants.{More, Whole, Fault}
-use Rattle.http_core.proofs.ServeLemmas.{serving_as, serve_first, serve_more, serve_fault, serve_closed, serve_on, serves_err}
+use Rattle.http_core.specs.declared.read.RequestRead.TheVariants.{More, Whole, Fault}
+use Rattle.http_core.proofs.ServeLemmas.{serving_as, serve_first, serve_more, serve_fault, serve_closed, serve_on, serves_err, grows_none, grows_on}
 use Rattle.http_core.proofs.connection.serve.Goals as goal
 
 pub loop-step-init : goal.loop-step-init
 loop-step-init g c = record {
   ready = c.in_ok-step.ensures.ready;
   serving = λ bytes reading. serve_first g.S.Service.told bytes c.args.piece.now c.args.output.now c.in_ok-step.step (c.in_ok-step.ensures.steps bytes reading);
+  grows = grows_none c.args.output.now;
 }
 
 pub returns-in-More-clause-serves : goal.returns-in-More-clause-serves
@@ -39,4 +40,5 @@ loop-step-preserved g c = record {
       (sym c.in_ok-answer-in-Whole.ensures.persists ∙ c.if-not-branch.false) c.in_ok-answer-in-Whole.ensures.ok c.last-rest.ensures.end
       (serving_as g.S.Service.told (bytes ++ c.args.piece.now) c.args.output.now c.loop-step.output c.loop-step.rest.now _ (Whole c.in-Whole.request c.in-Whole.left) c.in-Whole.is (c.loop-step.invariant.serving bytes reading))).1
       c.in_ok-step-in-Whole.step (c.in_ok-step-in-Whole.ensures.steps [] refl);
+  grows = grows_on c.args.output.now c.loop-step.output c.answer.new.output c.loop-step.invariant.grows c.answer.ensures.grows;
 }

@@ -11,3 +11,6 @@ returns-in-Sized-clause-steps c =
 pub returns-in-Chunked-clause-steps : goal.returns-in-Chunked-clause-steps
 returns-in-Chunked-clause-steps c =
     if_ok_maps c.read_chunked.result _ _ c.read_chunked.ensures.steps (λ step steps bytes reading. chunked_on bytes c.args.piece.now c.in-Chunked.head c.in-Chunked.chunks step (subst (λ (p : Part). IsReading p bytes) c.in-Chunked.is reading) steps)
+
+pub returns-in-Crowded-clause-steps : goal.returns-in-Crowded-clause-steps
+returns-in-Crowded-clause-steps c bytes reading = c.read_in_crowd.ensures.steps bytes (subst (λ (p : Part). IsReading p bytes) c.in-Crowded.is reading)

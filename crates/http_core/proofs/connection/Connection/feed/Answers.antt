@@ -1,5 +1,5 @@
 use Rattle.std.proofs.Common.{◌++◌, refl, sym, ◌∙◌}
-use Rattle.http_core.specs.declared.connection.Served.TheVariants.{More, Settled}
+use Rattle.http_core.specs.declared.connection.AfterPiece.TheVariants.{More, Settled}
 use Rattle.http_core.proofs.ConnectionLemmas.{serves_as, served_on, served_err, served_more, served_settled}
 use Rattle.http_core.proofs.connection.Connection.feed.Goals as goal
 

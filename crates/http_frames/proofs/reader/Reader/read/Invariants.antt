@@ -1,5 +1,5 @@
 use Rattle.std.proofs.Common.{◌≤◌, ◌-◌, ℕ, List, ◌++◌, length, take}
-use Rattle.http_frames.specs.Steps.{IsSoundReader, IsReadBy}
+use Rattle.http_frames.specs.Pieces.{IsSoundReader, IsReadBy}
 use Rattle.http_frames.proofs.reader.Reader.read.Given as goal
 
 abbrev pub invariant-loop-at : goal.invariant-loop-at
