@@ -6,14 +6,19 @@ use native.Mathlib.Decide.{dec_le}
 use lib.ListN.{get_elem?, length-replicate}
 use Rattle.std.proofs.lemmas.Bool.{lt-ltb, le-ltb}
 use Rattle.std.proofs.lemmas.List.Elements.{filter-append, All-replicate, All-nil, All-take}
+use Rattle.std.proofs.lemmas.List.{set_comm}
 use Rattle.std.proofs.Math.Seq.{take-append_seam}
 use Rattle.atomic_table.specs.Table.{State, Me, step, keeps, Allows, Splits, Joins, opening}
 use Rattle.atomic_table.proofs.Lists.{at_set, set_else, at_longer}
 use Rattle.count_lock.specs.declared.view.Stage.{Stage}
 use Rattle.count_lock.specs.declared.view.Stage.TheVariants.{Idle}
 use Rattle.count_lock.specs.declared.view.View.{View}
-use Rattle.count_lock.specs.Rule.{holding, turning, served_now, alive, waiting, load, weight, StartsWith, Spare, Owns, Apart, of, Fits, Home, Authored, Ticketed, settled, attested, longer, left_half, right_half, joined, spent_view, first_view, given}
-use Rattle.count_lock.proofs.Moves.{moved, stays, home_stays, weight_set, waiting_set, each_set, pairs_set, Each, Pairs}
+use Rattle.count_lock.specs.declared.view.Kin.{Kin}
+use Rattle.count_lock.specs.Rule.{holding, turning, served_now, alive, waiting, load, weight, StartsWith, Spare, IsKin, Joined, Has, Owns, Apart, family, of, Made, Fits, Home, Authored, Ticketed, settled, attested, longer, left_half, right_half, joined, spent_view, first_view, given}
+use Rattle.count_lock.proofs.Moves.{set_view, moved, stays, home_stays, weight_set, waiting_set, each_set, still_alone, pairs_set, Each, Pairs, Alone}
+
+nobody : ⊥ ⊎ ⊥ → ⊥
+nobody i = ⊎_elim (λ z. z) (λ z. z) i
 
 module _ {A : Type 0} where
   at_end : (l : List A) (a b : A) (j : ℕ) → get_elem? (l ++ a ∷ []) j ≡ some b → (get_elem? l j ≡ some b) ⊎ ((j ≡ length l) × (a ≡ b))
@@ -59,7 +64,23 @@ module _ {E : Type 0} (by : E → ℕ) where
       let e' : length (of by k a) ≡ length (of by k log) = ap length e in
       let z : of by k p.0 ≡ [] = no_length (of by k p.0) (omega arith) in sym (l ∙ ap (λ (x : List E). of by k b ++ x) z ∙ append-nil (of by k b))
 
+  pub made_append : (es : List E) (js ks : List (Kin E)) → Made by es js → Made by es ks → Made by es (js ++ ks)
+  made_append es [] ks a b = b
+  made_append es (j ∷ js) ks a b = (a.0, made_append es js ks a.1 b)
+
+  made_between : (log b a : List E) (ks : List (Kin E)) → StartsWith log b → StartsWith b a → Made by log ks → Made by a ks → Made by b ks
+  made_between log b a [] p q m n = tt
+  made_between log b a (k ∷ ks) p q m n = (of_between k.number log b a p q (n.0 ∙ sym m.0) ∙ m.0, made_between log b a ks p q m.1 n.1)
+
 module _ {E : Type 0} where
+  -- the guests are among the kin now
+  welcomed : (gs ks : List (Kin E)) (n : ℕ) → IsKin (gs ++ ks) n → IsKin ks n ⊎ IsKin gs n
+  welcomed [] ks n i = inl i
+  welcomed (g ∷ gs) ks n i = ⊎_elim (λ e. inr (inl e)) (λ i'. ⊎_elim (λ k. inl k) (λ k. inr (inr k)) (welcomed gs ks n i')) i
+
+  regathered : (gs ks : List (Kin E)) (n : ℕ) → IsKin (gs ++ ks) n ⊎ IsKin {E = E} [] n → IsKin ks n ⊎ IsKin gs n
+  regathered gs ks n i = ⊎_elim (welcomed gs ks n) (λ z. absurd z) i
+
   waiting_snoc : (vs : List (View E)) (w : View E) → waiting (vs ++ w ∷ []) ≡ waiting vs + holding w.stage
   waiting_snoc [] w = omega arith
   waiting_snoc (v ∷ vs) w = let h = waiting_snoc vs w in omega arith
@@ -107,8 +128,11 @@ module _ {T E : Type 0} (entries : T → List E) (constant_of : T → ℕ) (by :
       turn = λ h. absurd (omega arith);
       mine = λ _. (refl, refl);
       spare = λ _ k o. refl;
+      kin = λ _. (tt, tt);
+      guests = λ _. (tt, tt);
       range = λ _. (omega arith, omega arith, omega arith);
-      own = λ _ o. let a : 1 ≤ 0 = o.0 in absurd (omega arith);
+      own = λ _ o. ⊎_elim (λ (h : Spare (first_view {E = E} kd) 0). let a : 1 ≤ 0 = h.0 in absurd (omega arith)) nobody o;
+      fresh = λ _ k o i. nobody i;
     };
     pairs = λ i j u w eu ew ne. absurd (ne ((only (first_view kd) u i eu).0 ∙ sym (only (first_view kd) w j ew).0));
   }
@@ -118,10 +142,14 @@ module _ {T E : Type 0} (entries : T → List E) (constant_of : T → ℕ) (by :
       let idle : holding v.stage ≡ 0 = ap holding st in let one : alive v.stage ≡ 1 = ap alive st in let lives : 1 ≤ alive v.stage = subst (λ (z : Stage). 1 ≤ alive z) (sym st) (le_refl 1) in
       let a : ℕ = v.from in let b : ℕ = v.until in let k : ℕ = given v in let half : k * 2 ≤ b - a - 1 = div-mul-le_self (b - a - 1) 2 in let room' : a < b = room in let most : b ≤ 2 ^ 32 = (f.range lives).2 in
       let sub : (n : ℕ) → Spare w n → Spare v n = λ n o. let x : b - k ≤ n = o.0 in let y : n < b = o.1 in (let g : a ≤ n = omega arith in g, y) in
-      let left : (n : ℕ) → Owns l n → Owns v n = λ n o. ⊎_elim (λ e. inl e) (λ o'. inr (let x : a + 1 ≤ n = o'.0 in let y : n < b - k = o'.1 in let g : a ≤ n = omega arith in let h : n < b = omega arith in (g, h))) o in
-      let right : (n : ℕ) → Owns w n → Spare v n = λ n o. ⊎_elim (λ (e : n ≡ a). (let g : a ≤ n = omega arith in g, let h : n < b = omega arith in h)) (sub n) o in
-      let apart : (n : ℕ) → Owns l n → Owns w n → ⊥ = λ n o p. ⊎_elim (λ (e : n ≡ v.number). f.own lives (subst (Spare v) e (right n p)))
-      (λ o'. let x : a + 1 ≤ n = o'.0 in let y : n < b - k = o'.1 in ⊎_elim (λ (e : n ≡ a). let g : ⊥ = omega arith in g) (λ p'. let z : b - k ≤ n = p'.0 in let g : ⊥ = omega arith in g) p) o in
+      let wide : (n : ℕ) → Spare l n → Spare v n = λ n o. let x : a + 1 ≤ n = o.0 in let y : n < b - k = o.1 in let g : a ≤ n = omega arith in let h : n < b = omega arith in (g, h) in
+      let left : (n : ℕ) → Owns l n → Owns v n = λ n o. ⊎_elim (λ e. inl e) (λ o'. inr (⊎_elim (λ p. inl (wide n p)) (λ i. inr i) o')) o in
+      let right : (n : ℕ) → Owns w n → Spare v n = λ n o. ⊎_elim (λ (e : n ≡ a). (let g : a ≤ n = omega arith in g, let h : n < b = omega arith in h)) (λ o'. ⊎_elim (sub n) (λ i. absurd (nobody i)) o') o in
+      let apart : (n : ℕ) → Owns l n → Owns w n → ⊥ = λ n o p. ⊎_elim (λ (e : n ≡ v.number). f.own lives (subst (Has v) e (inl (right n p))))
+      (λ o'. ⊎_elim
+      (λ (q : Spare l n). let x : a + 1 ≤ n = q.0 in let y : n < b - k = q.1 in ⊎_elim (λ (e : n ≡ a). let g : ⊥ = omega arith in g)
+      (λ p'. ⊎_elim (λ (z' : Spare w n). let z : b - k ≤ n = z'.0 in let g : ⊥ = omega arith in g) nobody p') p)
+      (λ i. f.fresh lives n (right n p) i) o') o in
       let each' : Each entries constant_of by words vs r.drawn r.served r.log = each_set entries constant_of by words s.views id l r.drawn r.served r.log
       record {
         front = f.front;
@@ -129,12 +157,16 @@ module _ {T E : Type 0} (entries : T → List E) (constant_of : T → ℕ) (by :
         ticket = λ h. absurd (omega arith);
         turn = f.turn;
         mine = f.mine;
-        spare = λ al n o. f.spare lives n (let x : a + 1 ≤ n = o.0 in let y : n < b - k = o.1 in let g : a ≤ n = omega arith in let h : n < b = omega arith in (g, h));
+        spare = λ al n o. f.spare lives n (wide n o);
+        kin = f.kin;
+        guests = f.guests;
+        fresh = λ _ n o i. f.fresh lives n (wide n o) i;
         range = λ _. ((f.range lives).0, (let g : a + 1 ≤ b - k = omega arith in g), (let g : b - k ≤ 2 ^ 32 = omega arith in g));
-        own = λ _ o. f.own lives (let x : a + 1 ≤ v.number = o.0 in let y : v.number < b - k = o.1 in let g : a ≤ v.number = omega arith in let h : v.number < b = omega arith in (g, h));
+        own = λ _ o. f.own lives (⊎_elim (λ p. inl (wide v.number p)) (λ i. inr i) o);
       }
       (λ j u ne e. r.each j u e) in
-      let pairs' : Pairs entries constant_of by words vs = pairs_set entries constant_of by words s.views id v l at r.pairs (λ al. al) (λ n _ o. left n o) (λ j u ne e h. absurd (omega arith)) in
+      let pairs' : Pairs entries constant_of by words vs = pairs_set entries constant_of by words s.views id v l at r.pairs
+      (still_alone entries constant_of by words s.views id v l at r.pairs (λ al. al) (λ n _ o. left n o)) (λ j u ne e h. absurd (omega arith)) in
       let fits : Fits by r.drawn r.served r.log w = record {
         front = f.front;
         told = (r.log, refl);
@@ -142,12 +174,15 @@ module _ {T E : Type 0} (entries : T → List E) (constant_of : T → ℕ) (by :
         turn = λ h. absurd (omega arith);
         mine = λ _. let none' = f.spare lives a (le_refl a, room') in (none', of_none by a r.log v.seen f.front none');
         spare = λ _ n o. f.spare lives n (sub n o);
+        kin = λ _. (tt, tt);
+        guests = λ _. (tt, tt);
+        fresh = λ _ n o i. nobody i;
         range = λ _. (let g : a < 2 ^ 32 = omega arith in g, (let g : b - k ≤ b = omega arith in g), most);
-        own = λ _ o. let x : b - k ≤ a = o.0 in let g : ⊥ = omega arith in g;
+        own = λ _ o. ⊎_elim (λ (z : Spare w a). let x : b - k ≤ a = z.0 in let g : ⊥ = omega arith in g) nobody o;
       } in
       let facing : (i : ℕ) (u : View E) → get_elem? vs i ≡ some u → Apart u w = λ i u e. ⊎_elim
       (λ t. subst (λ (z : View E). Apart z w) t.1 ((λ _ h. absurd (omega arith)), (λ _ _ n o p. apart n o p)))
-      (λ t. ((λ _ h. absurd (omega arith)), (λ au aw n o p. (r.pairs i id u v t.1 at t.0).1 au lives n o (inr (right n p)))))
+      (λ t. ((λ _ h. absurd (omega arith)), (λ au aw n o p. (r.pairs i id u v t.1 at t.0).1 au lives n o (inr (inl (right n p))))))
       (at_set s.views id i l u e) in
       let turned : (x y : View E) → Apart x y → Apart y x = λ x y p. ((λ hy hx e. p.0 hx hy (sym e)), (λ ay ax n oy ox. p.1 ax ay n ox oy)) in
       let home : Home entries constant_of r.constant vs r.log s.homes = home_stays entries constant_of by words r.constant s.views r.log s.homes id v l at refl r.home in
@@ -181,11 +216,12 @@ module _ {T E : Type 0} (entries : T → List E) (constant_of : T → ℕ) (by :
   pub settles : (n id : ℕ) (me : M) → me.0.stage ≡ Idle → (y : ℕ) → Allows R n id me 1 (λ z. z) (λ z. settled by (step n 1 0 0 none) me y)
   settles n id me st y s r wide at _ = let v : View E = me.0 in let f = r.each id v at in let b = both_seen r.log v.seen v.told f.front f.told in
       let lives : 1 ≤ alive v.stage = subst (λ (z : Stage). 1 ≤ alive z) (sym st) (le_refl 1) in let idle : holding v.stage ≡ 0 = ap holding st in let not : served_now v.stage ≡ 0 = ap served_now st in
-      let w : View E = record v { seen = longer v.seen v.told; told = [] } in let m = f.mine lives in (
+      let w : View E = record v { seen = longer v.seen v.told; kin = v.guests ++ v.kin; told = []; guests = [] } in let m = f.mine lives in
+      let fewer : (k : ℕ) → Has w k → Has v k = λ k o. ⊎_elim (λ p. inl p) (λ i. inr (regathered v.guests v.kin k i)) o in (
         w,
         keeps,
         tt,
-        moved entries constant_of by words s r id v w at (set s.words 1 (get_or s.words 1 0)) s.homes r.drawn r.served r.log (ap (λ (ws : List ℕ). set ws 1 (get_or ws 1 0)) r.words_are) r.short r.authors (omega arith) (le_refl _) (λ a. a) (λ k _ o. o) (λ _. refl)
+        moved entries constant_of by words s r id v w at (set s.words 1 (get_or s.words 1 0)) s.homes r.drawn r.served r.log (ap (λ (ws : List ℕ). set ws 1 (get_or ws 1 0)) r.words_are) r.short r.authors (omega arith) (le_refl _) (λ a. a) (λ k _ o. ⊎_elim (λ e. inl e) (λ h. inr (fewer k h)) o) (λ _. refl)
             (home_stays entries constant_of by words r.constant s.views r.log s.homes id v w at refl r.home)
             record {
               front = b.2;
@@ -194,29 +230,78 @@ module _ {T E : Type 0} (entries : T → List E) (constant_of : T → ℕ) (by :
               turn = λ h. absurd (omega arith);
               mine = λ _. (m.0, of_between by v.number r.log w.seen v.seen b.2 b.0 (m.1 ∙ sym m.0) ∙ m.0);
               spare = f.spare;
+              kin = λ _. (
+                made_append by r.log v.guests v.kin (f.guests lives).0 (f.kin lives).0,
+                made_append by w.seen v.guests v.kin (made_between by r.log w.seen v.told v.guests b.2 b.1 (f.guests lives).0 (f.guests lives).1)
+                    (made_between by r.log w.seen v.seen v.kin b.2 b.0 (f.kin lives).0 (f.kin lives).1),
+              );
+              guests = λ _. (tt, tt);
               range = f.range;
-              own = f.own;
+              own = λ _ o. f.own lives (fewer v.number o);
+              fresh = λ _ k o i. f.fresh lives k o (regathered v.guests v.kin k i);
             }
             (λ j u ne e g. g) (λ j u ne e hw hu. absurd (omega arith)),
         (refl, refl, b.0, b.1),
       )
 
   pub joins : (id : ℕ) (v : View E) (other : ℕ) (w : View E) → v.stage ≡ Idle → w.stage ≡ Idle → Joins R id v other w (joined v w) spent_view
-  joins id v other w sv sw s r at ne at' = let l : View E = joined v w in let vs : List (View E) = set s.views id l in let f = r.each id v at in
+  unfolding set_view
+  joins id v other w sv sw s r at ne at' = let l : View E = joined v w in let f = r.each id v at in
       let there : get_elem? s.views other ≡ some w = sym (set_else s.views id other l ne) ∙ at' in let h = r.each other w there in
       let iv : holding v.stage ≡ 0 = ap holding sv in let iw : holding w.stage ≡ 0 = ap holding sw in
-      let s' : St = record { words = s.words; homes = s.homes; views = vs } in
-      let r' : R s' = moved entries constant_of by words s r id v l at s.words s.homes r.drawn r.served r.log r.words_are r.short r.authors (omega arith) (le_refl _) (λ a. a) (λ k _ o. o) (λ _. refl)
-      (home_stays entries constant_of by words r.constant s.views r.log s.homes id v l at refl r.home)
-      record { front = f.front; told = h.front; ticket = f.ticket; turn = f.turn; mine = f.mine; spare = f.spare; range = f.range; own = f.own }
+      let av : 1 ≤ alive v.stage = subst (λ (z : Stage). 1 ≤ alive z) (sym sv) (le_refl 1) in let aw : 1 ≤ alive w.stage = subst (λ (z : Stage). 1 ≤ alive z) (sym sw) (le_refl 1) in
+      let vs : List (View E) = set s.views other spent_view in let s' : St = record { words = s.words; homes = s.homes; views = vs } in
+      let alone : (k : ℕ) → Owns v k → Owns w k → ⊥ = λ k. (r.pairs id other v w at there (λ q. ne (sym q))).1 av aw k in
+      let theirs : (k : ℕ) → IsKin (family w) k → Owns w k = λ k i. ⊎_elim (λ e. inl e) (λ i'. inr (inr (inl i'))) i in
+      let r' : R s' = set_view entries constant_of by words s r other w spent_view there s.words s.homes r.drawn r.served r.log r.words_are r.short r.authors (omega arith) (let a : ℕ = load w in let g : 0 ≤ a = omega arith in g) (λ a. absurd (omega arith))
+      (λ j u n e a. absurd (omega arith)) (λ a. absurd (omega arith))
+      (home_stays entries constant_of by words r.constant s.views r.log s.homes other w spent_view there (sym (ap turning sw)) r.home)
+      record {
+        front = (r.log, refl);
+        told = (r.log, refl);
+        ticket = λ a. absurd (omega arith);
+        turn = λ a. absurd (omega arith);
+        mine = λ a. absurd (omega arith);
+        spare = λ a. absurd (omega arith);
+        kin = λ a. absurd (omega arith);
+        guests = λ a. absurd (omega arith);
+        range = λ a. absurd (omega arith);
+        own = λ a. absurd (omega arith);
+        fresh = λ a. absurd (omega arith);
+      }
       (λ j u n e g. g) (λ j u n e hw hu. absurd (omega arith)) in
-      moved entries constant_of by words s' r' other w spent_view at' s.words s.homes r'.drawn r'.served r'.log r'.words_are r'.short r'.authors (omega arith) (let a : ℕ = load w in let g : 0 ≤ a = omega arith in g) (λ a. absurd (omega arith))
-      (λ k a o. absurd (omega arith)) (λ a. absurd (omega arith))
-      (home_stays entries constant_of by words r'.constant vs r'.log s.homes other w spent_view at' (sym (ap turning sw)) r'.home)
-      record { front = (r'.log, refl); told = (r'.log, refl); ticket = λ a. absurd (omega arith); turn = λ a. absurd (omega arith); mine = λ a. absurd (omega arith); spare = λ a. absurd (omega arith); range = λ a. absurd (omega arith); own = λ a. absurd (omega arith) }
-      (λ j u n e g. g) (λ j u n e hw hu. absurd (omega arith))
+      let here : get_elem? vs id ≡ some v = set_else s.views other id spent_view (λ q. ne (sym q)) ∙ at in
+      subst (λ (us : List (View E)). R record { words = s.words; homes = s.homes; views = us }) (set_comm s.views other id spent_view l ne)
+      (set_view entries constant_of by words s' r' id v l here s.words s.homes r.drawn r.served r.log r.words_are r.short r.authors (omega arith) (le_refl _) (λ a. a)
+      (λ j u n e al au k ol ou. ⊎_elim
+      (λ (t : (j ≡ other) × (spent_view ≡ u)). let z : alive u.stage ≡ 0 = ap (λ (x : View E). alive x.stage) (sym t.1) in absurd (omega arith))
+      (λ t. ⊎_elim
+      (λ q. (r.pairs id j v u at t.1 (λ q'. n (sym q'))).1 av au k (inl q) ou)
+      (λ q. ⊎_elim
+      (λ p. (r.pairs id j v u at t.1 (λ q'. n (sym q'))).1 av au k (inr (inl p)) ou)
+      (λ i. ⊎_elim
+      (λ i'. (r.pairs id j v u at t.1 (λ q'. n (sym q'))).1 av au k (inr (inr (inl i'))) ou)
+      (λ i'. (r.pairs other j w u there t.1 (λ q'. t.0 (sym q'))).1 aw au k (theirs k i') ou)
+      i) q) ol)
+      (at_set s.views other j spent_view u e))
+      (λ _. refl)
+      (home_stays entries constant_of by words r.constant vs r.log s.homes id v l here refl r'.home)
+      record {
+        front = f.front;
+        told = h.front;
+        ticket = f.ticket;
+        turn = f.turn;
+        mine = f.mine;
+        spare = f.spare;
+        kin = f.kin;
+        guests = λ _. (((h.mine aw).0, (h.kin aw).0), ((h.mine aw).1, (h.kin aw).1));
+        range = f.range;
+        own = λ _ o. ⊎_elim (λ p. f.own av (inl p)) (λ i. ⊎_elim (λ i'. f.own av (inr (inl i'))) (λ i'. alone v.number (inl refl) (theirs v.number i')) i) o;
+        fresh = λ _ k o i. ⊎_elim (λ i'. f.fresh av k o (inl i')) (λ i'. alone k (inr (inl o)) (theirs k i')) i;
+      }
+      (λ j u n e g. g) (λ j u n e hw hu. absurd (omega arith)))
 
   pub attests : (n id : ℕ) (me : M) → me.0.stage ≡ Idle → (y : ℕ) → Allows R n id me 1 (λ z. z) (λ z. attested by (step n 1 0 0 none) me y)
   attests n id me st y s r wide at _ = let v : View E = me.0 in let f = r.each id v at in let lives : 1 ≤ alive v.stage = subst (λ (z : Stage). 1 ≤ alive z) (sym st) (le_refl 1) in
       stays entries constant_of by words s r id me (λ z. attested by (step n 1 0 0 none) me y) at
-      (refl, (f.mine lives).1, (λ k o. of_none by k r.log v.seen f.front (f.spare lives k o)), beginning by r.log v.seen f.front r.authors)
+      (refl, (f.mine lives).1, (λ k o. of_none by k r.log v.seen f.front (f.spare lives k o)), beginning by r.log v.seen f.front r.authors, (f.kin lives).1)

@@ -12,7 +12,8 @@ use Rattle.atomic_table.proofs.Lists.{at_set, set_else, one_turn}
 use Rattle.count_lock.specs.declared.view.Stage.{Stage}
 use Rattle.count_lock.specs.declared.view.Stage.TheVariants.{Idle, Waiting, Turn, Last, Spent}
 use Rattle.count_lock.specs.declared.view.View.{View}
-use Rattle.count_lock.specs.Rule.{holding, turning, served_now, alive, waiting, load, weight, Spare, Owns, Apart, of, Fits, Home, Authored, Ticketed, carried, drew, looked, noted, passed, laid}
+use Rattle.count_lock.specs.declared.view.Kin.{Kin}
+use Rattle.count_lock.specs.Rule.{holding, turning, served_now, alive, waiting, load, weight, Spare, IsKin, Joined, Has, Owns, Apart, of, Made, Fits, Home, Authored, Ticketed, carried, drew, looked, noted, passed, laid}
 
 -- a word that wraps
 pub next_mod : (a n : ℕ) → (a % n + 1) % n ≡ (a + 1) % n
@@ -75,6 +76,18 @@ module _ {E : Type 0} where
   light (x ∷ xs) = let h = light xs in let a : ℕ = load x in let k : holding x.stage ≤ a = hold_load x.stage (x.until - x.from) in let b : ℕ = weight xs in let c : ℕ = waiting xs in let h' : c ≤ b = h in
       let g : holding x.stage + c ≤ a + b = omega arith in g
 
+module _ {E : Type 0} (by : E → ℕ) where
+  pub of_snoc : (k : ℕ) (es : List E) (e : E) → by e ≢ k → of by k (es ++ e ∷ []) ≡ of by k es
+  of_snoc k es e ne = filter-append (λ (x : E). by x == k) es (e ∷ []) ∙ subst (λ (b : Bool). of by k es ++ cond b (e ∷ []) [] ≡ of by k es) (sym (ne_eqb (by e) k ne)) (append-nil (of by k es))
+
+  pub of_mine : (k : ℕ) (es : List E) (e : E) → by e ≡ k → of by k (es ++ e ∷ []) ≡ of by k es ++ e ∷ []
+  of_mine k es e is = filter-append (λ (x : E). by x == k) es (e ∷ []) ∙ subst (λ (b : Bool). of by k es ++ cond b (e ∷ []) [] ≡ of by k es ++ e ∷ []) (sym (eq-eqb (by e) k is)) refl
+
+  -- an entry of another pass
+  pub made_more : (es : List E) (e : E) (ks : List (Kin E)) → ((n : ℕ) → IsKin ks n → by e ≢ n) → Made by es ks → Made by (es ++ e ∷ []) ks
+  made_more es e [] other m = tt
+  made_more es e (k ∷ ks) other m = (of_snoc k.number es e (other k.number (inl refl)) ∙ m.0, made_more es e ks (λ n i. other n (inr i)) m.1)
+
 module _ {T E : Type 0} (entries : T → List E) (constant_of : T → ℕ) (by : E → ℕ) (words : ℕ) where
   abbrev St : Type 0
   St = State (Option T) (View E)
@@ -97,29 +110,37 @@ module _ {T E : Type 0} (entries : T → List E) (constant_of : T → ℕ) (by :
   pub each_set : (vs : List (View E)) (id : ℕ) (w : View E) (d n : ℕ) (log : List E) → Fits by d n log w → ((j : ℕ) (u : View E) → j ≢ id → get_elem? vs j ≡ some u → Fits by d n log u) → Each (set vs id w) d n log
   each_set vs id w d n log fits others j u e = ⊎_elim (λ t. subst (Fits by d n log) t.1 fits) (λ t. others j u t.0 t.1) (at_set vs id j w u e)
 
-  pub pairs_set : (vs : List (View E)) (id : ℕ) (v w : View E) → get_elem? vs id ≡ some v → Pairs vs → (1 ≤ alive w.stage → 1 ≤ alive v.stage) → ((k : ℕ) → 1 ≤ alive w.stage → Owns w k → Owns v k)
+  -- no other view has a number of the view w
+  abbrev pub Alone : List (View E) → ℕ → View E → Type 0
+  Alone vs id w = (j : ℕ) (u : View E) → j ≢ id → get_elem? vs j ≡ some u → 1 ≤ alive w.stage → 1 ≤ alive u.stage → (k : ℕ) → Owns w k → Owns u k → ⊥
+
+  -- a view that has no more numbers
+  pub still_alone : (vs : List (View E)) (id : ℕ) (v w : View E) → get_elem? vs id ≡ some v → Pairs vs → (1 ≤ alive w.stage → 1 ≤ alive v.stage) → ((k : ℕ) → 1 ≤ alive w.stage → Owns w k → Owns v k) → Alone vs id w
+  still_alone vs id v w at pairs alive' owns j u ne e aw au k ow ou = (pairs id j v u at e (λ q. ne (sym q))).1 (alive' aw) au k (owns k aw ow) ou
+
+  pub pairs_set : (vs : List (View E)) (id : ℕ) (v w : View E) → get_elem? vs id ≡ some v → Pairs vs → Alone vs id w
       → ((j : ℕ) (u : View E) → j ≢ id → get_elem? vs j ≡ some u → 1 ≤ holding w.stage → 1 ≤ holding u.stage → w.at ≢ u.at) → Pairs (set vs id w)
-  pairs_set vs id v w at pairs alive' owns tickets i j f g ei ej ne =
+  pairs_set vs id v w at pairs alone tickets i j f g ei ej ne =
       ⊎_elim (λ ti. ⊎_elim (λ tj. absurd (ne (ti.0 ∙ sym tj.0)))
-      (λ tj. subst (λ (z : View E). Apart z g) ti.1 ((λ hw hg. tickets j g tj.0 tj.1 hw hg), (λ aw ag k ow og. (pairs id j v g at tj.1 (λ q. tj.0 (sym q))).1 (alive' aw) ag k (owns k aw ow) og)))
+      (λ tj. subst (λ (z : View E). Apart z g) ti.1 ((λ hw hg. tickets j g tj.0 tj.1 hw hg), (λ aw ag k ow og. alone j g tj.0 tj.1 aw ag k ow og)))
       (at_set vs id j w g ej))
       (λ ti. ⊎_elim
-      (λ tj. subst (λ (z : View E). Apart f z) tj.1 ((λ hf hw e. tickets i f ti.0 ti.1 hw hf (sym e)), (λ af aw k of' ow. (pairs i id f v ti.1 at ti.0).1 af (alive' aw) k of' (owns k aw ow))))
+      (λ tj. subst (λ (z : View E). Apart f z) tj.1 ((λ hf hw e. tickets i f ti.0 ti.1 hw hf (sym e)), (λ af aw k of' ow. alone i f ti.0 ti.1 aw af k ow of')))
       (λ tj. pairs i j f g ti.1 tj.1 ne) (at_set vs id j w g ej))
       (at_set vs id i w f ei)
 
-  -- the view of the seat id goes from v to w, which has no more numbers, and the words, the slot and the history change
-  pub moved : (s : St) (r : R s) (id : ℕ) (v w : View E) → get_elem? s.views id ≡ some v
+  -- the view of the seat id goes from v to w, and the words, the slot and the history change
+  unfoldable pub set_view : (s : St) (r : R s) (id : ℕ) (v w : View E) → get_elem? s.views id ≡ some v
       → (ws : List ℕ) (hs : Homes) (d n : ℕ) (log : List E)
       → ws ≡ (d % 2 ^ 64) ∷ (n % 2 ^ 64) ∷ length log ∷ r.ends → length log < 2 ^ 64 → Authored by log
       → d + holding v.stage + r.served ≡ n + r.drawn + holding w.stage
-      → load w ≤ load v → (1 ≤ alive w.stage → 1 ≤ alive v.stage) → ((k : ℕ) → 1 ≤ alive w.stage → Owns w k → Owns v k)
+      → load w ≤ load v → (1 ≤ alive w.stage → 1 ≤ alive v.stage) → Alone s.views id w
       → (1 ≤ alive w.stage → w.constant ≡ v.constant) → Home entries constant_of r.constant (set s.views id w) log hs
       → Fits by d n log w
       → ((j : ℕ) (u : View E) → j ≢ id → get_elem? s.views j ≡ some u → Fits by r.drawn r.served r.log u → Fits by d n log u)
       → ((j : ℕ) (u : View E) → j ≢ id → get_elem? s.views j ≡ some u → 1 ≤ holding w.stage → 1 ≤ holding u.stage → w.at ≢ u.at)
       → R record { words = ws; homes = hs; views = set s.views id w }
-  moved s r id v w at ws hs d n log wide short authors count light' alive' owns same_constant home fits others tickets =
+  set_view s r id v w at ws hs d n log wide short authors count light' alive' alone same_constant home fits others tickets =
       let a : ℕ = waiting s.views in let b : ℕ = waiting (set s.views id w) in let x : ℕ = holding v.stage in let y : ℕ = holding w.stage in
       let moves : b + x ≡ a + y = waiting_set s.views id v w at in let was : r.served + a ≡ r.drawn = r.waits in let count' : d + x + r.served ≡ n + r.drawn + y = count in
       let a' : ℕ = weight s.views in let b' : ℕ = weight (set s.views id w) in let x' : ℕ = load v in let y' : ℕ = load w in
@@ -139,8 +160,21 @@ module _ {T E : Type 0} (entries : T → List E) (constant_of : T → ℕ) (by :
         constants = λ j u e. ⊎_elim (λ t. subst (λ (z : View E). 1 ≤ alive z.stage → z.constant ≡ r.constant) t.1 (λ a. same_constant a ∙ r.constants id v at (alive' a))) (λ t. r.constants j u t.1) (at_set s.views id j w u e);
         home = home;
         each = each_set s.views id w d n log fits (λ j u ne e. others j u ne e (r.each j u e));
-        pairs = pairs_set s.views id v w at r.pairs alive' owns tickets;
+        pairs = pairs_set s.views id v w at r.pairs alone tickets;
       }
+
+  -- the same, where w has no more numbers
+  pub moved : (s : St) (r : R s) (id : ℕ) (v w : View E) → get_elem? s.views id ≡ some v
+      → (ws : List ℕ) (hs : Homes) (d n : ℕ) (log : List E)
+      → ws ≡ (d % 2 ^ 64) ∷ (n % 2 ^ 64) ∷ length log ∷ r.ends → length log < 2 ^ 64 → Authored by log
+      → d + holding v.stage + r.served ≡ n + r.drawn + holding w.stage
+      → load w ≤ load v → (1 ≤ alive w.stage → 1 ≤ alive v.stage) → ((k : ℕ) → 1 ≤ alive w.stage → Owns w k → Owns v k)
+      → (1 ≤ alive w.stage → w.constant ≡ v.constant) → Home entries constant_of r.constant (set s.views id w) log hs
+      → Fits by d n log w
+      → ((j : ℕ) (u : View E) → j ≢ id → get_elem? s.views j ≡ some u → Fits by r.drawn r.served r.log u → Fits by d n log u)
+      → ((j : ℕ) (u : View E) → j ≢ id → get_elem? s.views j ≡ some u → 1 ≤ holding w.stage → 1 ≤ holding u.stage → w.at ≢ u.at)
+      → R record { words = ws; homes = hs; views = set s.views id w }
+  moved s r id v w at ws hs d n log wide short authors count light' alive' owns = set_view s r id v w at ws hs d n log wide short authors count light' alive' (still_alone s.views id v w at r.pairs alive' owns)
 
   pub set_there : {A : Type 0} (l : List A) (i : ℕ) (a b : A) → get_elem? l i ≡ some a → get_elem? (set l i b) i ≡ some b
   set_there [] i a b e = absurd (some-ne-none a (sym e))
@@ -169,8 +203,8 @@ module _ {T E : Type 0} (entries : T → List E) (constant_of : T → ℕ) (by :
             (ap (λ (ws : List ℕ). set ws 0 ((get_or ws 0 0 + 1) % 2 ^ 64)) r.words_are ∙ ap (λ (k : ℕ). k ∷ (r.served % 2 ^ 64) ∷ length r.log ∷ r.ends) (next_mod r.drawn (2 ^ 64)))
             r.short r.authors (omega arith) (subst (λ (z : Stage). load w ≤ alive z * (1 + (v.until - v.from))) (sym st) (le_refl _)) (λ _. lives) (λ k _ o. o) (λ _. refl)
             (home_stays r.constant s.views r.log s.homes id v w at (sym (ap turning st)) r.home)
-            record { front = f.front; told = f.told; ticket = λ _. (omega arith, omega arith); turn = λ h. absurd (omega arith); mine = λ _. f.mine lives; spare = λ _. f.spare lives; range = λ _. f.range lives; own = λ _. f.own lives }
-            (λ j u ne e g. record { front = g.front; told = g.told; ticket = λ h. ((g.ticket h).0, let b = (g.ticket h).1 in omega arith); turn = g.turn; mine = g.mine; spare = g.spare; range = g.range; own = g.own })
+            record { front = f.front; told = f.told; ticket = λ _. (omega arith, omega arith); turn = λ h. absurd (omega arith); mine = λ _. f.mine lives; spare = λ _. f.spare lives; kin = λ _. f.kin lives; guests = λ _. f.guests lives; range = λ _. f.range lives; own = λ _. f.own lives; fresh = λ _. f.fresh lives }
+            (λ j u ne e g. record { front = g.front; told = g.told; ticket = λ h. ((g.ticket h).0, let b = (g.ticket h).1 in omega arith); turn = g.turn; mine = g.mine; spare = g.spare; kin = g.kin; guests = g.guests; range = g.range; own = g.own; fresh = g.fresh })
             (λ j u ne e _ h q. let b = ((r.each j u e).ticket h).1 in let q' : r.drawn ≡ u.at = q in omega arith),
         (r.drawn, ap (λ (ws : List ℕ). get_or ws 0 0) r.words_are, refl, refl),
       )
@@ -224,20 +258,17 @@ module _ {T E : Type 0} (entries : T → List E) (constant_of : T → ℕ) (by :
               turn = λ _. (is, h.2);
               mine = λ _. (m.0, ap (of by v.number) h.2 ∙ m.0);
               spare = λ _. f.spare lives;
+              kin = λ _. ((f.kin lives).0, subst (λ (l : List E). Made by l v.kin) (sym h.2) (f.kin lives).0);
+              guests = λ _. f.guests lives;
               range = λ _. f.range lives;
               own = λ _. f.own lives;
+              fresh = λ _. f.fresh lives;
             }
             (λ j u ne e g. g)
             (λ j u ne e hw hu. (r.pairs id j v u at e (λ q. ne (sym q))).0 holds hu),
-        ((λ _. (x, refl, refl, (f.front.0, h.2 ∙ f.front.1), ap (of by v.number) h.2 ∙ m.0, λ k o. ap (of by k) h.2 ∙ f.spare lives k o, h.4 ∙ sym (r.constants id v at lives), subst (Authored by) (sym h.2) r.authors)), λ miss. absurd (miss hit)),
+        ((λ _. (x, refl, refl, (f.front.0, h.2 ∙ f.front.1), ap (of by v.number) h.2 ∙ m.0, λ k o. ap (of by k) h.2 ∙ f.spare lives k o, h.4 ∙ sym (r.constants id v at lives), subst (Authored by) (sym h.2) r.authors, subst (λ (l : List E). Made by l v.kin) (sym h.2) (f.kin lives).0)), λ miss. absurd (miss hit)),
       ))
       (λ miss. stays s r id me told at ((λ hit. absurd (miss hit)), λ _. refl))
-
-  pub of_snoc : (k : ℕ) (es : List E) (e : E) → by e ≢ k → of by k (es ++ e ∷ []) ≡ of by k es
-  of_snoc k es e ne = filter-append (λ (x : E). by x == k) es (e ∷ []) ∙ subst (λ (b : Bool). of by k es ++ cond b (e ∷ []) [] ≡ of by k es) (sym (ne_eqb (by e) k ne)) (append-nil (of by k es))
-
-  pub of_mine : (k : ℕ) (es : List E) (e : E) → by e ≡ k → of by k (es ++ e ∷ []) ≡ of by k es ++ e ∷ []
-  of_mine k es e is = filter-append (λ (x : E). by x == k) es (e ∷ []) ∙ subst (λ (b : Bool). of by k es ++ cond b (e ∷ []) [] ≡ of by k es ++ e ∷ []) (sym (eq-eqb (by e) k is)) refl
 
   -- while a view has the turn, the value is out, and no other view has the turn
   is_out : (s : St) (r : R s) (id : ℕ) (v : View E) → get_elem? s.views id ≡ some v → turning v.stage ≡ 1 → s.homes ≡ none ∷ []
@@ -252,7 +283,10 @@ module _ {T E : Type 0} (entries : T → List E) (constant_of : T → ℕ) (by :
       let long : length log ≡ length r.log + 1 = ap length grows ∙ length-append r.log (e ∷ []) in let room' : length r.log + 1 < 2 ^ 64 = subst (λ (l : List E). length l + 1 < 2 ^ 64) here room in
       let m = f.mine lives in let w : View E = record v { seen = log; mine = of by v.number log } in
       let other : (j : ℕ) (u : View E) → j ≢ id → get_elem? s.views j ≡ some u → 1 ≤ alive u.stage → (k : ℕ) → Owns u k → by e ≢ k =
-      λ j u ne eu au k o q. (r.pairs id j v u at eu (λ z. ne (sym z))).1 lives au k (inl (sym q ∙ author)) o in (
+      λ j u ne eu au k o q. (r.pairs id j v u at eu (λ z. ne (sym z))).1 lives au k (inl (sym q ∙ author)) o in
+      let mine_not : (k : ℕ) → Has v k → by e ≢ k = λ k o q. f.own lives (subst (Has v) (sym q ∙ author) o) in
+      let longer_made : (ks : List (Kin E)) → ((k : ℕ) → IsKin ks k → by e ≢ k) → Made by r.log ks → Made by log ks = λ ks ne a. subst (λ (l : List E). Made by l ks) (sym grows) (made_more by r.log e ks ne a) in
+      let kept : Made by log v.kin = longer_made v.kin (λ k i. mine_not k (inr (inl i))) (f.kin lives).0 in (
         w,
         keeps,
         tt,
@@ -267,22 +301,28 @@ module _ {T E : Type 0} (entries : T → List E) (constant_of : T → ℕ) (by :
               ticket = f.ticket;
               turn = λ _. (t.0, refl);
               mine = λ _. (refl, refl);
-              spare = λ _ k o. ap (of by k) grows ∙ of_snoc k r.log e (λ q. f.own lives (subst (Spare v) (sym q ∙ author) o)) ∙ f.spare lives k o;
+              spare = λ _ k o. ap (of by k) grows ∙ of_snoc by k r.log e (λ q. f.own lives (subst (Has v) (sym q ∙ author) (inl o))) ∙ f.spare lives k o;
+              kin = λ _. (kept, kept);
+              guests = λ _. (longer_made v.guests (λ k i. mine_not k (inr (inr i))) (f.guests lives).0, (f.guests lives).1);
               range = f.range;
               own = f.own;
+              fresh = f.fresh;
             }
             (λ j u ne eu g. record {
               front = (g.front.0 ++ e ∷ [], grows ∙ ap (λ (l : List E). l ++ e ∷ []) g.front.1 ∙ append_assoc u.seen g.front.0 (e ∷ []));
               told = (g.told.0 ++ e ∷ [], grows ∙ ap (λ (l : List E). l ++ e ∷ []) g.told.1 ∙ append_assoc u.told g.told.0 (e ∷ []));
               ticket = g.ticket;
               turn = λ h. let hu : 1 ≤ holding u.stage = turn_holds u.stage h in absurd ((r.pairs id j v u at eu (λ z. ne (sym z))).0 holds hu (t.0 ∙ sym (g.turn h).0));
-              mine = λ au. (ap (of by u.number) grows ∙ of_snoc u.number r.log e (other j u ne eu au u.number (inl refl)) ∙ (g.mine au).0, (g.mine au).1);
-              spare = λ au k o. ap (of by k) grows ∙ of_snoc k r.log e (other j u ne eu au k (inr o)) ∙ g.spare au k o;
+              mine = λ au. (ap (of by u.number) grows ∙ of_snoc by u.number r.log e (other j u ne eu au u.number (inl refl)) ∙ (g.mine au).0, (g.mine au).1);
+              spare = λ au k o. ap (of by k) grows ∙ of_snoc by k r.log e (other j u ne eu au k (inr (inl o))) ∙ g.spare au k o;
+              kin = λ au. (longer_made u.kin (λ k i. other j u ne eu au k (inr (inr (inl i)))) (g.kin au).0, (g.kin au).1);
+              guests = λ au. (longer_made u.guests (λ k i. other j u ne eu au k (inr (inr (inr i)))) (g.guests au).0, (g.guests au).1);
               range = g.range;
               own = g.own;
+              fresh = g.fresh;
             })
             (λ j u ne eu hw hu. (r.pairs id j v u at eu (λ q. ne (sym q))).0 holds hu),
-        (refl, refl, m.1),
+        (refl, refl, m.1, kept),
       )
 
   pub passes : (n id : ℕ) (me : M) (x : T) → me.0.stage ≡ Turn → me.1 ≡ (0, Some x) ∷ [] → entries x ≡ me.0.seen → constant_of x ≡ me.0.constant
@@ -308,7 +348,7 @@ module _ {T E : Type 0} (entries : T → List E) (constant_of : T → ℕ) (by :
                   (at_set s.views id j w u e),
               alike ∙ r.constants id v at lives,
             ))
-            record { front = f.front; told = f.told; ticket = λ h. absurd (omega arith); turn = λ h. absurd (omega arith); mine = λ _. f.mine lives; spare = λ _. f.spare lives; range = λ _. f.range lives; own = λ _. f.own lives }
+            record { front = f.front; told = f.told; ticket = λ h. absurd (omega arith); turn = λ h. absurd (omega arith); mine = λ _. f.mine lives; spare = λ _. f.spare lives; kin = λ _. f.kin lives; guests = λ _. f.guests lives; range = λ _. f.range lives; own = λ _. f.own lives; fresh = λ _. f.fresh lives }
             (λ j u ne eu g. record {
               front = g.front;
               told = g.told;
@@ -316,8 +356,11 @@ module _ {T E : Type 0} (entries : T → List E) (constant_of : T → ℕ) (by :
               turn = λ h. let hu : 1 ≤ holding u.stage = turn_holds u.stage h in absurd ((r.pairs id j v u at eu (λ z. ne (sym z))).0 holds hu (t.0 ∙ sym (g.turn h).0));
               mine = g.mine;
               spare = g.spare;
+              kin = g.kin;
+              guests = g.guests;
               range = g.range;
               own = g.own;
+              fresh = g.fresh;
             })
             (λ j u ne eu hw _. absurd (omega arith)),
         (refl, refl),
@@ -344,7 +387,7 @@ module _ {T E : Type 0} (entries : T → List E) (constant_of : T → ℕ) (by :
                   (at_set s.views id j w u e),
               alike ∙ r.constants id v at lives,
             ))
-            record { front = f.front; told = f.told; ticket = λ _. f.ticket holds; turn = λ _. t; mine = λ _. f.mine lives; spare = λ _. f.spare lives; range = λ _. f.range lives; own = λ _. f.own lives }
+            record { front = f.front; told = f.told; ticket = λ _. f.ticket holds; turn = λ _. t; mine = λ _. f.mine lives; spare = λ _. f.spare lives; kin = λ _. f.kin lives; guests = λ _. f.guests lives; range = λ _. f.range lives; own = λ _. f.own lives; fresh = λ _. f.fresh lives }
             (λ j u ne eu g. g)
             (λ j u ne eu hw hu. (r.pairs id j v u at eu (λ q. ne (sym q))).0 holds hu),
         (refl, refl),
@@ -352,9 +395,9 @@ module _ {T E : Type 0} (entries : T → List E) (constant_of : T → ℕ) (by :
 
   -- at the end the value is at home, and stands for the history
   pub ends_whole : (id : ℕ) (v : View E) → v.stage ≡ Last → (ws : List ℕ) (xs : List (Option T)) → Final (Seen R id v) ws xs
-      → (x : T) × (get_elem? xs 0 ≡ some (Some x)) × (entries x ≡ v.seen) × (of by v.number v.seen ≡ v.mine) × (constant_of x ≡ v.constant)
+      → (x : T) × (get_elem? xs 0 ≡ some (Some x)) × (entries x ≡ v.seen) × (of by v.number v.seen ≡ v.mine) × (constant_of x ≡ v.constant) × Made by v.seen v.kin
   ends_whole id v st ws xs end = let s = end.0 in let r = end.1.0 in let at = end.1.1 in let f = r.each id v at in
       let now : 1 ≤ served_now v.stage = subst (λ (z : Stage). 1 ≤ served_now z) (sym st) (le_refl 1) in let t = f.turn now in
       let lives : 1 ≤ alive v.stage = subst (λ (z : Stage). 1 ≤ alive z) (sym st) (le_refl 1) in
       let h = is_home s r id v at (turn_holds v.stage now) (ap turning st) t.0 in
-      (h.0, end.4 0 (Some h.0) (ap (λ (hs : Homes). get_elem? hs 0) h.1), h.2 ∙ sym t.1, (f.mine lives).1, h.4 ∙ sym (r.constants id v at lives))
+      (h.0, end.4 0 (Some h.0) (ap (λ (hs : Homes). get_elem? hs 0) h.1), h.2 ∙ sym t.1, (f.mine lives).1, h.4 ∙ sym (r.constants id v at lives), (f.kin lives).1)

@@ -9,6 +9,7 @@ use lib.ListN.{get_elem?}
 use Rattle.atomic_table.specs.Table.{State, Me, Step, rest}
 use Rattle.count_lock.specs.declared.view.Stage.{Stage}
 use Rattle.count_lock.specs.declared.view.Stage.TheVariants.{Idle, Waiting, Turn, Last, Spent}
+use Rattle.count_lock.specs.declared.view.Kin.{Kin}
 use Rattle.count_lock.specs.declared.view.View.{View}
 
 abbrev pub holding : Stage → ℕ
@@ -59,8 +60,25 @@ module _ {E : Type 0} where
   abbrev pub Spare : View E → ℕ → Type 0
   Spare v n = (v.from ≤ n) × (n < v.until)
 
+  -- it is the number of one of these passes
+  abbrev pub IsKin : List (Kin E) → ℕ → Type 0
+  IsKin [] n = ⊥
+  IsKin (k ∷ ks) n = (n ≡ k.number) ⊎ IsKin ks n
+
+  -- it is the number of a pass that was joined into the view's
+  abbrev pub Joined : View E → ℕ → Type 0
+  Joined v n = IsKin v.kin n ⊎ IsKin v.guests n
+
+  -- the number belongs to the view, and is not its own
+  abbrev pub Has : View E → ℕ → Type 0
+  Has v n = Spare v n ⊎ Joined v n
+
   abbrev pub Owns : View E → ℕ → Type 0
-  Owns v n = (n ≡ v.number) ⊎ Spare v n
+  Owns v n = (n ≡ v.number) ⊎ Has v n
+
+  -- the pass and its kin, as they are to the pass that it is joined into
+  abbrev pub family : View E → List (Kin E)
+  family v = record { number = v.number; mine = v.mine } ∷ v.kin
 
   abbrev pub Apart : View E → View E → Type 0
   Apart v w = (1 ≤ holding v.stage → 1 ≤ holding w.stage → v.at ≢ w.at)
@@ -71,6 +89,11 @@ module _ {E : Type 0} (by : E → ℕ) where
   abbrev pub of : ℕ → List E → List E
   of n es = filter (λ e. by e == n) es
 
+  -- the entries of each of these passes are what it made
+  abbrev pub Made : List E → List (Kin E) → Type 0
+  Made es [] = Unit {0}
+  Made es (k ∷ ks) = (of k.number es ≡ k.mine) × Made es ks
+
   pub record Fits (drawn served : ℕ) (log : List E) (v : View E) : Type 0 where
     pub front : StartsWith log v.seen
     pub ticket : 1 ≤ holding v.stage → (served ≤ v.at) × (v.at < drawn)
@@ -79,7 +102,10 @@ module _ {E : Type 0} (by : E → ℕ) where
     pub mine : 1 ≤ alive v.stage → (of v.number log ≡ v.mine) × (of v.number v.seen ≡ v.mine)
     pub spare : 1 ≤ alive v.stage → (n : ℕ) → Spare v n → of n log ≡ []
     pub range : 1 ≤ alive v.stage → (v.number < 2 ^ 32) × (v.from ≤ v.until) × (v.until ≤ 2 ^ 32)
-    pub own : 1 ≤ alive v.stage → Spare v v.number → ⊥
+    pub kin : 1 ≤ alive v.stage → Made log v.kin × Made v.seen v.kin
+    pub guests : 1 ≤ alive v.stage → Made log v.guests × Made v.told v.guests
+    pub own : 1 ≤ alive v.stage → Has v v.number → ⊥
+    pub fresh : 1 ≤ alive v.stage → (n : ℕ) → Spare v n → Joined v n → ⊥
 
 -- how many words follow the first three, and that they are 0
 abbrev pub Ends : ℕ → List ℕ → Type 0
@@ -121,10 +147,10 @@ module _ {T E : Type 0} (entries : T → List E) where
 
 module _ {E : Type 0} where
   abbrev pub first_view : ℕ → View E
-  first_view constant = record { constant = constant; stage = Idle; at = 0; number = 0; from = 1; until = 4294967296; seen = []; mine = []; told = [] }
+  first_view constant = record { constant = constant; stage = Idle; at = 0; number = 0; from = 1; until = 4294967296; seen = []; mine = []; kin = []; told = []; guests = [] }
 
   abbrev pub spent_view : View E
-  spent_view = record { constant = 0; stage = Spent; at = 0; number = 0; from = 0; until = 0; seen = []; mine = []; told = [] }
+  spent_view = record { constant = 0; stage = Spent; at = 0; number = 0; from = 0; until = 0; seen = []; mine = []; kin = []; told = []; guests = [] }
 
   -- how many spare numbers the new pass gets
   abbrev pub given : View E → ℕ
@@ -134,14 +160,14 @@ module _ {E : Type 0} where
   left_half v = record v { from = v.from + 1; until = v.until - given v }
 
   abbrev pub right_half : View E → View E
-  right_half v = record { constant = v.constant; stage = Idle; at = 0; number = v.from; from = v.until - given v; until = v.until; seen = v.seen; mine = []; told = [] }
+  right_half v = record { constant = v.constant; stage = Idle; at = 0; number = v.from; from = v.until - given v; until = v.until; seen = v.seen; mine = []; kin = []; told = []; guests = [] }
 
   -- the longer of two lists
   abbrev pub longer : List E → List E → List E
   longer xs ys = if nat_lt (length xs) (length ys) then ys else xs
 
   abbrev pub joined : View E → View E → View E
-  joined v w = record v { told = w.seen }
+  joined v w = record v { told = w.seen; guests = family w }
 
 abbrev Seated : Type 0 → Type 0 → Type 0
 Seated T E = Me (Option T) (View E)
@@ -152,7 +178,7 @@ module _ {T E : Type 0} where
 
   abbrev pub Takes : (T → List E) → (T → ℕ) → (E → ℕ) → Seated T E → Seated T E → Type 0
   Takes entries constant_of by m m' = (x : T) × (m'.0 ≡ record m.0 { stage = Turn; seen = entries x }) × (m'.1 ≡ (0, Some x) ∷ m.1)
-      × StartsWith (entries x) m.0.seen × (of by m.0.number (entries x) ≡ m.0.mine) × ((n : ℕ) → Spare m.0 n → of by n (entries x) ≡ []) × (constant_of x ≡ m.0.constant) × Authored by (entries x)
+      × StartsWith (entries x) m.0.seen × (of by m.0.number (entries x) ≡ m.0.mine) × ((n : ℕ) → Spare m.0 n → of by n (entries x) ≡ []) × (constant_of x ≡ m.0.constant) × Authored by (entries x) × Made by (entries x) m.0.kin
 
   abbrev pub looked : (T → List E) → (T → ℕ) → (E → ℕ) → Step (Option T) → Seated T E → ℕ → Seated T E → Type 0
   looked entries constant_of by st m r m' = (r ≡ m.0.at % 2 ^ 64 → Takes entries constant_of by m m') × (r ≢ m.0.at % 2 ^ 64 → m' ≡ m)
@@ -160,10 +186,11 @@ module _ {T E : Type 0} where
   -- from no ticket to the turn
   abbrev pub Turned : (T → List E) → (T → ℕ) → (E → ℕ) → Seated T E → Seated T E → Type 0
   Turned entries constant_of by m m' = (x : T) × (k : ℕ) × (m'.0 ≡ record m.0 { stage = Turn; at = k; seen = entries x }) × (m'.1 ≡ (0, Some x) ∷ m.1)
-      × StartsWith (entries x) m.0.seen × (of by m.0.number (entries x) ≡ m.0.mine) × ((n : ℕ) → Spare m.0 n → of by n (entries x) ≡ []) × (constant_of x ≡ m.0.constant) × Authored by (entries x)
+      × StartsWith (entries x) m.0.seen × (of by m.0.number (entries x) ≡ m.0.mine) × ((n : ℕ) → Spare m.0 n → of by n (entries x) ≡ []) × (constant_of x ≡ m.0.constant) × Authored by (entries x) × Made by (entries x) m.0.kin
 
   abbrev pub noted : (T → List E) → (E → ℕ) → Step (Option T) → Seated T E → ℕ → Seated T E → Type 0
   noted entries by st m r m' = (m'.0 ≡ record m.0 { seen = carried entries m.1; mine = of by m.0.number (carried entries m.1) }) × (m'.1 ≡ m.1) × (of by m.0.number m.0.seen ≡ m.0.mine)
+      × Made by (carried entries m.1) m.0.kin
 
   abbrev pub passed : Step (Option T) → Seated T E → ℕ → Seated T E → Type 0
   passed st m r m' = (m'.0 ≡ record m.0 { stage = Idle; at = 0 }) × (m'.1 ≡ rest m.1)
@@ -173,9 +200,9 @@ module _ {T E : Type 0} where
 
   -- what was told is seen
   abbrev pub settled : (E → ℕ) → Step (Option T) → Seated T E → ℕ → Seated T E → Type 0
-  settled by st m r m' = (m'.0 ≡ record m.0 { seen = longer m.0.seen m.0.told; told = [] }) × (m'.1 ≡ m.1)
+  settled by st m r m' = (m'.0 ≡ record m.0 { seen = longer m.0.seen m.0.told; kin = m.0.guests ++ m.0.kin; told = []; guests = [] }) × (m'.1 ≡ m.1)
       × StartsWith (longer m.0.seen m.0.told) m.0.seen × StartsWith (longer m.0.seen m.0.told) m.0.told
 
   -- what the pass has seen, beside its numbers
   abbrev pub attested : (E → ℕ) → Step (Option T) → Seated T E → ℕ → Seated T E → Type 0
-  attested by st m r m' = (m' ≡ m) × (of by m.0.number m.0.seen ≡ m.0.mine) × ((n : ℕ) → Spare m.0 n → of by n m.0.seen ≡ []) × Authored by m.0.seen
+  attested by st m r m' = (m' ≡ m) × (of by m.0.number m.0.seen ≡ m.0.mine) × ((n : ℕ) → Spare m.0 n → of by n m.0.seen ≡ []) × Authored by m.0.seen × Made by m.0.seen m.0.kin

@@ -2,26 +2,42 @@
 ghost use Rattle.std.specs.Prelude.{◌≡◌, ◌+◌, ◌-◌, ◌/◌, ◌^◌, ◌<◌, ◌≤◌, ℕ, [], ◌∷◌, ◌++◌, length, IfOk, IfErr, MatchResult, Some, None};
 ghost use Rattle.std.specs.Borrow.{sem};
 ghost use Rattle.count_lock.specs.Lent.{LendsValue};
-ghost use Rattle.count_lock.specs.Rule.{StartsWith, longer, of, Turned};
+ghost use Rattle.count_lock.specs.Rule.{StartsWith, longer, of, Made, Turned};
 ghost use Rattle.count_lock.specs.declared.view.Stage.TheVariants.{Idle, Turn};
-ghost use Rattle.count_lock.specs.Passes.{constant, seen, mine, number, first_spare, end_spare, IsSameSeat, IsPassOf, IsSamePass, IsResting, HasTurn, IsUnsplit, Accounts};
+ghost use Rattle.count_lock.specs.Passes.{constant, constant_of, words_of, seen, mine, kin, family_of, number, first_spare, end_spare, IsSameSeat, IsPassOf, IsSamePass, IsResting, HasTurn, IsUnsplit, Accounts};
 
+use crate::bell::Bells;
 use crate::held::Held;
 use crate::kept::Kept;
 use crate::lock::CountLock;
+use crate::owner::Owner;
 use crate::pass::{Pass, SplitRefused};
 use crate::plays::{Both, Halves};
 use crate::view::{Key, View};
 use atomic_table::{Refused, Seat, Table};
 use kj_base::NoMemory;
 use std::alloc::Global;
+use std::hint::spin_loop;
 use std::sync::Wait;
+use std::thread::yield_now;
+
+// How often a pass looks before it gives its processor away or sleeps.
+const SPIN: u32 = 128;
+// How often it gives its processor away before it sleeps.
+const YIELDS: u32 = 4;
 
 impl<T: Kept> Pass<T> {
     pub fn number(&self) -> u32
         ensures { result ≡ number self.now }
     {
         self.number
+    }
+
+    /// What it makes can be told from what any other pass makes.
+    pub fn owner(&self) -> Owner
+        ensures { (result.table_id ≡ self.now.seat.table_id) × (result.number ≡ number self.now) }
+    {
+        Owner::of(&self.seat, self.number as u64)
     }
 }
 
@@ -49,7 +65,9 @@ impl<T: Kept> CountLock<T> {
         words: u32,
     ) -> Result<(CountLock<T>, Pass<T>), (NoMemory, T)>
         requires { T.entries value ≡ [] }
-        ensures ok { IfOk result (λ r. IsPassOf r.0 r.1 × IsResting r.1 × (constant r.1 ≡ T.constant value) × (seen r.1 ≡ []) × (mine r.1 ≡ []) × (number r.1 ≡ 0) × (first_spare r.1 ≡ 1) × (end_spare r.1 ≡ 4294967296)) }
+        ensures lock { IfOk result (λ r. (constant_of r.0 ≡ T.constant value) × (words_of r.0 ≡ words)) }
+        ensures pass { IfOk result (λ r. IsPassOf r.0 r.1 × IsResting r.1 × (number r.1 ≡ 0) × (first_spare r.1 ≡ 1) × (end_spare r.1 ≡ 4294967296)) }
+        ensures empty { IfOk result (λ r. (seen r.1 ≡ []) × (mine r.1 ≡ []) × (kin r.1 ≡ [])) }
         ensures err { IfErr result (λ e. e.1 ≡ value) }
     {
         let key = Key {
@@ -66,7 +84,10 @@ impl<T: Kept> CountLock<T> {
         slots.push_reserved(Some(value));
         match Table::new(alloc, row.as_slice(), slots, &key) {
             Ok((table, seat)) => Ok((
-                CountLock { table },
+                CountLock {
+                    table,
+                    bells: Bells::new(),
+                },
                 Pass {
                     number: 0,
                     from: 1,
@@ -88,8 +109,10 @@ impl<T: Kept> CountLock<T> {
     /// A pass with a number of its own, which has seen as much.
     pub fn split(&self, pass: &mut Pass<T>) -> Result<Pass<T>, SplitRefused>
         requires lock { IsPassOf self.now pass.old × IsResting pass.old }
-        ensures lock { IsPassOf self.now pass.new × IsResting pass.new × (number pass.new ≡ number pass.old) × (constant pass.new ≡ constant pass.old) × (seen pass.new ≡ seen pass.old) × (mine pass.new ≡ mine pass.old) }
-        ensures ok { IfOk result (λ p. IsPassOf self.now p × IsResting p × (constant p ≡ constant pass.old) × (seen p ≡ seen pass.old) × (mine p ≡ []) × (number p ≡ first_spare pass.old)) }
+        ensures lock { IsPassOf self.now pass.new × IsResting pass.new × (number pass.new ≡ number pass.old) }
+        ensures same { (seen pass.new ≡ seen pass.old) × (mine pass.new ≡ mine pass.old) × (kin pass.new ≡ kin pass.old) }
+        ensures ok { IfOk result (λ p. IsPassOf self.now p × IsResting p × (number p ≡ first_spare pass.old)) }
+        ensures made { IfOk result (λ p. (seen p ≡ seen pass.old) × (mine p ≡ []) × (kin p ≡ [])) }
         ensures spare { IfOk result (λ p. (first_spare pass.new ≡ first_spare pass.old + 1) × (end_spare pass.new ≡ first_spare p) × (end_spare p ≡ end_spare pass.old)
             × (first_spare p + (end_spare pass.old - first_spare pass.old - 1) / 2 ≡ end_spare pass.old)) }
         ensures accounts { IfOk result (λ p. Accounts T.by pass.new (seen pass.new) × Accounts T.by p (seen p)) }
@@ -115,18 +138,55 @@ impl<T: Kept> CountLock<T> {
         Ok(made)
     }
 
-    /// The pass then has the longer of what both have seen.
+    /// The pass then has the longer of what both have seen. The other is among its kin: what it made is all that it ever makes.
     pub fn join(&self, into: &mut Pass<T>, from: Pass<T>)
         requires into { IsPassOf self.now into.old × IsResting into.old }
         requires from { IsPassOf self.now from × IsResting from }
         ensures pass { IsSamePass into.old into.new × IsResting into.new × (mine into.new ≡ mine into.old) }
         ensures seen { (seen into.new ≡ longer (seen into.old) (seen from)) × StartsWith (seen into.new) (seen into.old) × StartsWith (seen into.new) (seen from) }
+        ensures kin { kin into.new ≡ family_of from ++ kin into.old }
         ensures accounts { Accounts T.by into.new (seen into.new) }
     {
         let seat = from.into_seat();
         self.table.shared.join_seat::<Both>(&mut into.seat, seat);
         self.settle(&mut into.seat);
         self.attest(&mut into.seat);
+    }
+
+    // No ticket is drawn that isn't served. Anyone may look, and it tells nothing.
+    fn is_free(&self) -> bool {
+        self.table.shared.peek(0) == self.table.shared.peek(1)
+    }
+
+    // Waits without a ticket, so that nobody waits for a sleeper.
+    fn wait_at_gate<R: Wait>(&self, rt: &R) {
+        for _ in 0..SPIN {
+            if self.is_free() {
+                return;
+            }
+            spin_loop();
+        }
+        for _ in 0..YIELDS {
+            if self.is_free() {
+                return;
+            }
+            yield_now();
+        }
+        self.bells.gate.lie_down();
+        let rung = self.bells.gate.rung();
+        if !self.is_free() {
+            self.bells.gate.sleep(rt, rung);
+        }
+        self.bells.gate.get_up();
+    }
+
+    // Wakes the holder of the next ticket, or else one who has none.
+    fn wake_next(&self, served: u64) {
+        let next = served.wrapping_add(1);
+        self.bells.of(next).ring_for_sleepers();
+        if self.table.shared.peek(0) == next {
+            self.bells.gate.ring_for_one();
+        }
     }
 
     // Draws a ticket and waits until it is served. Then the value is out.
@@ -136,15 +196,28 @@ impl<T: Kept> CountLock<T> {
         ensures lock { IsSameSeat seat.old seat.new }
         ensures turn { Turned T.entries T.constant T.by seat.old.me seat.new.me }
     {
+        self.wait_at_gate(rt);
         let ticket = self.draw(seat);
+        let bell = self.bells.of(ticket);
+        let mut looks: u32 = 0;
         for _ in rt.forever() {
+            let rung = bell.rung();
             let serving = self.look(seat);
             if serving == ticket {
+                if looks > SPIN {
+                    bell.get_up();
+                }
                 return;
             }
-            self.table
-                .shared
-                .park(rt, 1, (serving & 0xffff_ffff) as u32);
+            if looks < SPIN {
+                looks += 1;
+                spin_loop();
+            } else if looks == SPIN {
+                looks += 1;
+                bell.lie_down();
+            } else {
+                bell.sleep(rt, rung);
+            }
         }
         unreachable!()
     }
@@ -155,7 +228,9 @@ impl<T: Kept> CountLock<T> {
         requires rests { IsResting pass.old }
         ensures pass { IsSamePass pass.old pass.new × HasTurn pass.new }
         ensures value { (T.entries result.value ≡ seen pass.new) × (T.constant result.value ≡ constant pass.new) }
-        ensures seen { StartsWith (seen pass.new) (seen pass.old) × (mine pass.new ≡ mine pass.old) × Accounts T.by pass.new (seen pass.new) }
+        ensures seen { StartsWith (seen pass.new) (seen pass.old) }
+        ensures mine { (mine pass.new ≡ mine pass.old) × (kin pass.new ≡ kin pass.old) }
+        ensures accounts { Accounts T.by pass.new (seen pass.new) }
         ensures unsplit { IsUnsplit pass.old → seen pass.new ≡ mine pass.new }
     {
         self.turn(rt, &mut pass.seat);
@@ -169,12 +244,13 @@ impl<T: Kept> CountLock<T> {
         requires { IsPassOf self pass × IsResting pass }
         ensures seen { StartsWith (T.entries result) (seen pass) }
         ensures mine { of T.by (number pass) (T.entries result) ≡ mine pass }
+        ensures kin { Made T.by (T.entries result) (kin pass) }
         ensures constant { T.constant result ≡ constant pass }
     {
         let mut seat = pass.into_seat();
         self.turn(rt, &mut seat);
         self.lay_down(&mut seat);
-        let CountLock { table } = self;
+        let CountLock { table, bells: _ } = self;
         let mut closed = table.close_with(seat);
         let back = closed.take(0);
         closed.free();
@@ -193,13 +269,14 @@ impl<T: Kept> Held<T> {
         requires room { length (seen pass.old) + 1 < 2 ^ 64 }
         ensures pass { IsSamePass pass.old pass.new × IsResting pass.new }
         ensures seen { (seen pass.new ≡ seen pass.old ++ entry ∷ []) × (mine pass.new ≡ mine pass.old ++ entry ∷ []) }
+        ensures kin { kin pass.new ≡ kin pass.old }
         ensures accounts { Accounts T.by pass.old (seen pass.old) → Accounts T.by pass.new (seen pass.new) }
     {
         let Held { value } = self;
         lock.put(&mut pass.seat, value);
         lock.note(&mut pass.seat);
-        lock.pass_on(&mut pass.seat);
-        lock.table.shared.wake_all(1);
+        let served = lock.pass_on(&mut pass.seat);
+        lock.wake_next(served);
     }
 
     pub fn release_unchanged(self, lock: &CountLock<T>, pass: &mut Pass<T>)
@@ -207,11 +284,12 @@ impl<T: Kept> Held<T> {
         requires value { (T.entries self.value ≡ seen pass.old) × (T.constant self.value ≡ constant pass.old) }
         ensures pass { IsSamePass pass.old pass.new × IsResting pass.new }
         ensures seen { (seen pass.new ≡ seen pass.old) × (mine pass.new ≡ mine pass.old) }
+        ensures kin { kin pass.new ≡ kin pass.old }
         ensures accounts { Accounts T.by pass.old (seen pass.old) → Accounts T.by pass.new (seen pass.new) }
     {
         let Held { value } = self;
         lock.put(&mut pass.seat, value);
-        lock.pass_on(&mut pass.seat);
-        lock.table.shared.wake_all(1);
+        let served = lock.pass_on(&mut pass.seat);
+        lock.wake_next(served);
     }
 }

@@ -3,10 +3,12 @@
 //! Each caller has a pass. It knows a beginning of the history, and which entries of it are its own.
 #![tactic(auto)]
 
+mod bell;
 mod calls;
 mod held;
 mod kept;
 mod lock;
+mod owner;
 mod pass;
 mod plays;
 mod steps;
@@ -17,4 +19,5 @@ mod view;
 pub use held::Held;
 pub use kept::Kept;
 pub use lock::CountLock;
+pub use owner::Owner;
 pub use pass::{Pass, SplitRefused};

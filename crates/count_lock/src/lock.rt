@@ -1,6 +1,7 @@
 //! The lock.
 ghost use Rattle.std.specs.Prelude.{◌≡◌, ◌+◌};
 
+use crate::bell::Bells;
 use crate::kept::Kept;
 use crate::view::{Key, Rule, View};
 use atomic_table::Table;
@@ -11,5 +12,6 @@ use std::alloc::Global;
 #[derive(Drop)]
 pub struct CountLock<T: Kept> {
     pub(crate) table: Table<Option<T>, View<T::Entry>, Key, Rule<T>, Global>,
+    pub(crate) bells: Bells,
     pub ghost sized: { (table.shared.table_id.words ≡ table.shared.key.words + 3) × (table.shared.table_id.slots ≡ 1) },
 }

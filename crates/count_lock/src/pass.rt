@@ -4,6 +4,7 @@ ghost use Rattle.std.specs.Prelude.{◌≡◌, ◌<◌, ◌≤◌};
 use crate::kept::Kept;
 use crate::view::View;
 use atomic_table::Seat;
+use thiserror::Error;
 
 /// It has a number, which its entries carry, and a range of spare numbers, which no entry carries.
 pub struct Pass<T: Kept> {
@@ -18,9 +19,10 @@ pub struct Pass<T: Kept> {
 }
 
 /// Why a pass was not split.
-#[derive(Drop, Debug)]
+#[derive(Clone, Copy, Debug, PartialEq, Eq, Error)]
 pub enum SplitRefused {
     /// The pass has no spare number.
+    #[error("no spare number is left")]
     Numbers,
 }
 

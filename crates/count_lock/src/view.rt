@@ -18,8 +18,15 @@ pub enum Stage {
     Spent,
 }
 
+/// A pass that was joined: its number, and the entries that it made.
+pub struct Kin<E> {
+    pub number: u64,
+    pub mine: LinkedList<E>,
+}
+
 /// The spare numbers are those from `from` to below `until`. `at` is the ticket, counted without end.
-/// `told` is what a joined pass had seen, until the pass has looked at the lock again.
+/// `told` is what a joined pass had seen, and `guests` are that pass and its own kin, until the pass has looked at the lock
+/// again: then they are among its `kin`.
 pub struct View<E> {
     pub stage: Stage,
     pub at: u64,
@@ -28,7 +35,9 @@ pub struct View<E> {
     pub until: u64,
     pub seen: LinkedList<E>,
     pub mine: LinkedList<E>,
+    pub kin: LinkedList<Kin<E>>,
     pub told: LinkedList<E>,
+    pub guests: LinkedList<Kin<E>>,
     pub constant: u64,
 }
 

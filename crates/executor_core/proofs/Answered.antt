@@ -16,7 +16,7 @@ use Rattle.executor_core.specs.Acts.{Desk, desk, act, MayAct, IsOwn, IsRunning, 
 use Rattle.executor_core.specs.Histories.{entry, fresh, Legal, board_of}
 use Rattle.executor_core.proofs.Moves.{Shift, Starts, Stops, Finishes, Withdraws, Asks, Collects, Move, Submits, Sets, Closes, least_is, started}
 use Rattle.executor_core.proofs.Steps.{at_state}
-use Rattle.executor_core.proofs.Laws.{after_append, legal_append}
+use Rattle.executor_core.proofs.Legal.{after_append, legal_append}
 
 shift_changes : (k r : ℕ) (q : Request) (call : Call) (reply : Reply) (st : State) → Shift k r q call reply st → q.state ≡ st → ⊥
 shift_changes k r q _ _ _ (Starts t w) e = let f : queued_state q.state ≡ false = ap queued_state e in cc

@@ -2,8 +2,9 @@ pub mod Searches
 pub mod Moves
 pub mod Steps
 pub mod Weights
-pub mod Laws
+pub mod Legal
 pub mod Answered
+pub mod Own
 pub mod Opens
 pub mod Chains
 pub mod Links

@@ -1,10 +1,11 @@
 -- What one move does to one request, and to the room that is left.
-use Rattle.std.proofs.Common.{◌≡◌, ℕ, zero, suc, ◌+◌, ◌≤◌, ◌≢◌, ◌⊎◌, ◌==◌, true, false, cond, List, [], ◌∷◌, ◌++◌, map, length, set, refl, ap, ◌∙◌, subst, sym, arith, inl, inr, ⊎_elim, le_refl, eq-eqb, ne_eqb, Option, Some, None}
+use Rattle.std.proofs.Common.{◌≡◌, ℕ, zero, suc, ◌+◌, ◌≤◌, ◌≢◌, ◌⊎◌, ◌==◌, Bool, true, false, cond, List, [], ◌∷◌, ◌++◌, map, length, length-append, length-set, set, refl, ap, ◌∙◌, subst, sym, arith, inl, inr, ⊎_elim, le_refl, eq-eqb, ne_eqb, Option, Some, None}
 use mathlib.Core.Logic.{dite}
 use native.Mathlib.Decide.{ℕ_discrete}
 use Rattle.std.specs.Prelude.{slice_get, slice_set}
 use Rattle.std.specs.Option.{option_map}
 use Rattle.std.proofs.lemmas.Bool.{eqb-true}
+use Rattle.std.proofs.lemmas.List.{length-map}
 use Rattle.std.proofs.lemmas.Option.{slice_get-map}
 use Rattle.executor_core.specs.declared.request.State.{State}
 use Rattle.executor_core.specs.declared.request.State.TheVariants.{Queued, Executing, Canceling, Stopping, Done as DoneState, Spent}
@@ -12,7 +13,7 @@ use Rattle.executor_core.specs.declared.request.Request.{Request}
 use Rattle.executor_core.specs.declared.call.Call.{Call}
 use Rattle.executor_core.specs.declared.call.Reply.{Reply}
 use Rattle.executor_core.specs.Acts.{Desk, IsOwn, is_queued, queued_state, canceling_state, running_state, spent_state, ended_state, set_state, new_request, shut, disconnected}
-use Rattle.executor_core.specs.Histories.{submits, starts, finishes, spends, waits, over, ends_by}
+use Rattle.executor_core.specs.Histories.{submits, starts, finishes, spends, waits, there, over, ends_by, gives_ticket, gives_start, asks_finish, asks_close}
 use Rattle.executor_core.proofs.Moves.{Shift, Starts, Stops, Finishes, Withdraws, Asks, Collects, Move, Submits, Sets, Closes}
 
 module _ {A : Type 0} where
@@ -247,6 +248,65 @@ gone_step d k call reply _ (Sets _ _ r q st at shift) n =
     (λ h. rw (h.1, spend_else k r q call reply st n shift h.0) (let x : ℕ = gone (slice_get d.requests n) in let g : x + 0 ≡ x = omega arith in g)) (at_state d.requests r q st at n)
 gone_step d k _ _ _ (Closes target none opened) n = let x : ℕ = gone (slice_get d.requests n) in let z : x + 0 ≡ x = omega arith in z ∙ gone_shut (slice_get d.requests n) ∙ ap gone (sym (slice_get-map shut d.requests n))
 
+not_both_shift : (k r : ℕ) (q : Request) (call : Call) (reply : Reply) (st : State) (n : ℕ) → Shift k r q call reply st → finishes n call ≡ true → starts n reply ≡ false
+not_both_shift k r q _ _ _ n (Starts t w) e = absurd cc
+not_both_shift k r q _ _ _ n (Stops t w) e = refl
+not_both_shift k r q _ _ _ n (Finishes o t w) e = refl
+not_both_shift k r q _ _ _ n (Withdraws t w) e = refl
+not_both_shift k r q _ _ _ n (Asks t w) e = refl
+not_both_shift k r q _ _ _ n (Collects o t w) e = refl
+
+-- no call starts a request and finishes one
+pub not_both : (d : Desk) (k : ℕ) (call : Call) (reply : Reply) (d' : Desk) → Move d k call reply d' → (n : ℕ) → finishes n call ≡ true → starts n reply ≡ false
+not_both d k _ _ _ (Submits step words opened room) n e = refl
+not_both d k call reply _ (Sets _ _ r q st at shift) n e = not_both_shift k r q call reply st n shift e
+not_both d k _ _ _ (Closes target none opened) n e = refl
+
+submits_none : (k r : ℕ) (q : Request) (call : Call) (reply : Reply) (st : State) (n : ℕ) → Shift k r q call reply st → submits n reply ≡ false
+submits_none k r q _ _ _ n (Starts t w) = refl
+submits_none k r q _ _ _ n (Stops t w) = refl
+submits_none k r q _ _ _ n (Finishes o t w) = refl
+submits_none k r q _ _ _ n (Withdraws t w) = refl
+submits_none k r q _ _ _ n (Asks t w) = refl
+submits_none k r q _ _ _ n (Collects o t w) = refl
+
+there_shut : (o : Option Request) → there o ≡ there (option_map shut o)
+there_shut None = refl
+there_shut (Some q) = refl
+
+-- a request is on the board after the step where it was before or is submitted by it
+pub there_step : (d : Desk) (k : ℕ) (call : Call) (reply : Reply) (d' : Desk) → Move d k call reply d' → (n : ℕ) → there (slice_get d.requests n) + cond (submits n reply) 1 0 ≡ there (slice_get d'.requests n)
+there_step d k _ _ _ (Submits step words opened room) n = dite (ℕ_discrete n (length d.requests))
+    (λ is. ⊎_elim (λ h. rw (h.1, h.2, same_true (length d.requests) n is) refl) (λ h. absurd (past d.requests (new_request k step words) n is h)) (get_snoc d.requests (new_request k step words) n))
+    (λ ne. let x : ℕ = there (slice_get d.requests n) in let z : x + 0 ≡ x = omega arith in ⊎_elim (λ h. absurd (ne h.0)) (λ h. ap (λ (b : Bool). there (slice_get d.requests n) + cond b 1 0) (other_false (length d.requests) n ne) ∙ z ∙ ap there (sym h)) (get_snoc d.requests (new_request k step words) n))
+there_step d k call reply _ (Sets _ _ r q st at shift) n =
+    ⊎_elim (λ h. rw (h.1, h.2, submits_none k r q call reply st n shift) refl)
+    (λ h. rw (h.1, submits_none k r q call reply st n shift) (let x : ℕ = there (slice_get d.requests n) in let g : x + 0 ≡ x = omega arith in g)) (at_state d.requests r q st at n)
+there_step d k _ _ _ (Closes target none opened) n = let x : ℕ = there (slice_get d.requests n) in let z : x + 0 ≡ x = omega arith in z ∙ there_shut (slice_get d.requests n) ∙ ap there (sym (slice_get-map shut d.requests n))
+
+kept_shift : (k r : ℕ) (q : Request) (call : Call) (reply : Reply) (st : State) → Shift k r q call reply st → (gives_ticket reply ≡ false) × (asks_close call ≡ false)
+kept_shift k r q _ _ _ (Starts t w) = (refl, refl)
+kept_shift k r q _ _ _ (Stops t w) = (refl, refl)
+kept_shift k r q _ _ _ (Finishes o t w) = (refl, refl)
+kept_shift k r q _ _ _ (Withdraws t w) = (refl, refl)
+kept_shift k r q _ _ _ (Asks t w) = (refl, refl)
+kept_shift k r q _ _ _ (Collects o t w) = (refl, refl)
+
+set_length : (rs : List Request) (r : ℕ) (q : Request) (st : State) → slice_get rs r ≡ Some q → length (set_state rs r st) ≡ length rs
+set_length rs r q st at = ap (λ (o : Option Request). length (elim o as (λ _. List Request) [ None ↦ rs | Some q ↦ slice_set rs r (record q { state = st }) ])) at ∙ length-set rs r (record q { state = st })
+
+-- each submission adds a request
+pub count_step : (d : Desk) (k : ℕ) (call : Call) (reply : Reply) (d' : Desk) → Move d k call reply d' → length d.requests + cond (gives_ticket reply) 1 0 ≡ length d'.requests
+count_step d k _ _ _ (Submits step words opened room) = sym (length-append d.requests (new_request k step words ∷ []))
+count_step d k call reply _ (Sets _ _ r q st at shift) = let n : ℕ = length d.requests in let z : n + 0 ≡ n = omega arith in ap (λ (b : Bool). length d.requests + cond b 1 0) (kept_shift k r q call reply st shift).0 ∙ z ∙ sym (set_length d.requests r q st at)
+count_step d k _ _ _ (Closes target none opened) = let n : ℕ = length d.requests in let z : n + 0 ≡ n = omega arith in z ∙ sym (length-map d.requests shut)
+
+-- the board is closed after the step where it was before or is by it
+pub closed_step : (d : Desk) (k : ℕ) (call : Call) (reply : Reply) (d' : Desk) → Move d k call reply d' → cond {A = ℕ} d.closed 1 0 + cond (asks_close call) 1 0 ≡ cond d'.closed 1 0
+closed_step d k _ _ _ (Submits step words opened room) = let x : ℕ = cond d.closed 1 0 in let g : x + 0 ≡ x = omega arith in g
+closed_step d k call reply _ (Sets _ _ r q st at shift) = let x : ℕ = cond d.closed 1 0 in let z : x + 0 ≡ x = omega arith in ap (λ (b : Bool). cond {A = ℕ} d.closed 1 0 + cond b 1 0) (kept_shift k r q call reply st shift).1 ∙ z
+closed_step d k _ _ _ (Closes target none opened) = ap (λ (b : Bool). cond {A = ℕ} b 1 0 + 1) opened
+
 by_target_shift : (k r : ℕ) (q : Request) (call : Call) (reply : Reply) (st : State) (n : ℕ) → Shift k r q call reply st → k ≢ 0 → (starts n reply ≡ false) × (finishes n call ≡ false)
 by_target_shift k r q _ _ _ n (Starts t w) ne = absurd (ne t)
 by_target_shift k r q _ _ _ n (Stops t w) ne = absurd (ne t)
@@ -260,6 +320,19 @@ pub by_target : (d : Desk) (k : ℕ) (call : Call) (reply : Reply) (d' : Desk) �
 by_target d k _ _ _ (Submits step words opened room) n ne = (refl, refl)
 by_target d k call reply _ (Sets _ _ r q st at shift) n ne = by_target_shift k r q call reply st n shift ne
 by_target d k _ _ _ (Closes target none opened) n ne = absurd (ne target)
+
+any_by_target_shift : (k r : ℕ) (q : Request) (call : Call) (reply : Reply) (st : State) → Shift k r q call reply st → k ≢ 0 → (gives_start reply ≡ false) × (asks_finish call ≡ false)
+any_by_target_shift k r q _ _ _ (Starts t w) ne = absurd (ne t)
+any_by_target_shift k r q _ _ _ (Stops t w) ne = absurd (ne t)
+any_by_target_shift k r q _ _ _ (Finishes o t w) ne = absurd (ne t)
+any_by_target_shift k r q _ _ _ (Withdraws t w) ne = (refl, refl)
+any_by_target_shift k r q _ _ _ (Asks t w) ne = (refl, refl)
+any_by_target_shift k r q _ _ _ (Collects o t w) ne = (refl, refl)
+
+pub any_by_target : (d : Desk) (k : ℕ) (call : Call) (reply : Reply) (d' : Desk) → Move d k call reply d' → k ≢ 0 → (gives_start reply ≡ false) × (asks_finish call ≡ false)
+any_by_target d k _ _ _ (Submits step words opened room) ne = (refl, refl)
+any_by_target d k call reply _ (Sets _ _ r q st at shift) ne = any_by_target_shift k r q call reply st shift ne
+any_by_target d k _ _ _ (Closes target none opened) ne = absurd (ne target)
 
 -- where the board is closed, each request has ended
 abbrev pub Shut : Desk → Type 0

@@ -1,5 +1,5 @@
 -- Histories of a board: which are legal, what board they leave, and what the entries of one caller tell.
-use Rattle.std.specs.Prelude.{◌≡◌, ◌≢◌, ℕ, ◌+◌, ◌≤◌, ◌==◌, Bool, true, false, cond, List, [], ◌∷◌, slice_get, Option, Some, None}
+use Rattle.std.specs.Prelude.{◌≡◌, ◌≢◌, ℕ, ◌+◌, ◌≤◌, ◌==◌, ◌||◌, if◌then◌else◌, Bool, true, false, cond, List, [], ◌∷◌, ◌++◌, slice_get, Option, Some, None}
 use Rattle.std.specs.List.{filter}
 use Rattle.executor_core.specs.declared.request.Request.{Request}
 use Rattle.executor_core.specs.declared.entry.Entry.{Entry}
@@ -62,6 +62,35 @@ spends r (Cancel n) Withdrawn = n == r
 spends r (Collect n) (Ended o) = n == r
 spends r _ _ = false
 
+abbrev pub gives_ticket : Reply → Bool
+gives_ticket (Ticket n) = true
+gives_ticket _ = false
+
+abbrev pub gives_start : Reply → Bool
+gives_start (Start n step words) = true
+gives_start _ = false
+
+abbrev pub asks_finish : Call → Bool
+asks_finish (Finish n o) = true
+asks_finish _ = false
+
+abbrev pub asks_close : Call → Bool
+asks_close Close = true
+asks_close _ = false
+
+-- some request is submitted, starts or is finished by the entry, and the executor is closed by it
+abbrev pub is_any_submit : Entry → Bool
+is_any_submit e = gives_ticket e.reply
+
+abbrev pub is_any_start : Entry → Bool
+is_any_start e = gives_start e.reply
+
+abbrev pub is_any_finish : Entry → Bool
+is_any_finish e = asks_finish e.call
+
+abbrev pub is_close : Entry → Bool
+is_close e = asks_close e.call
+
 abbrev pub is_submit : ℕ → Entry → Bool
 is_submit r e = submits r e.reply
 
@@ -78,6 +107,11 @@ is_spend r e = spends r e.call e.reply
 abbrev pub waits : Option Request → ℕ
 waits None = 0
 waits (Some q) = cond (queued_state q.state) 1 0
+
+-- 1 where the request is there, else 0
+abbrev pub there : Option Request → ℕ
+there None = 0
+there (Some q) = 1
 
 -- 1 where the request is there and has ended, else 0
 abbrev pub over : Option Request → ℕ
@@ -102,13 +136,57 @@ starts_in es r = times (is_start r) es
 abbrev pub ends_in : ℕ → List Entry → ℕ → ℕ
 ends_in limit es r = ends_from (fresh limit) r es
 
--- by its own entries, a caller has submitted the request, and has not withdrawn or collected it
-abbrev pub Outstanding : List Entry → ℕ → Type 0
-Outstanding mine r = (1 ≤ times (is_submit r) mine) × (times (is_spend r) mine ≡ 0)
+-- the number is in the list
+abbrev pub is_among : ℕ → List ℕ → Bool
+is_among n [] = false
+is_among n (m ∷ ms) = (m == n) || is_among n ms
 
--- by its own entries, the target has started the request, and has not finished it
+-- the list without the number
+abbrev pub without : ℕ → List ℕ → List ℕ
+without n [] = []
+without n (m ∷ ms) = if m == n then without n ms else m ∷ without n ms
+
+abbrev pub with_submitted : List ℕ → Reply → List ℕ
+with_submitted rs (Ticket n) = rs ++ n ∷ []
+with_submitted rs _ = rs
+
+abbrev pub without_spent : List ℕ → Call → Reply → List ℕ
+without_spent rs (Cancel n) Withdrawn = without n rs
+without_spent rs (Collect n) (Ended o) = without n rs
+without_spent rs _ _ = rs
+
+abbrev pub with_started : List ℕ → Reply → List ℕ
+with_started rs (Start n step words) = rs ++ n ∷ []
+with_started rs _ = rs
+
+abbrev pub without_finished : List ℕ → Call → List ℕ
+without_finished rs (Finish n o) = without n rs
+without_finished rs _ = rs
+
+-- of requests of a caller that are open, and its entries from then on: what is open then
+abbrev pub outstanding_from : List ℕ → List Entry → List ℕ
+outstanding_from rs [] = rs
+outstanding_from rs (e ∷ es) = outstanding_from (without_spent (with_submitted rs e.reply) e.call e.reply) es
+
+abbrev pub unfinished_from : List ℕ → List Entry → List ℕ
+unfinished_from rs [] = rs
+unfinished_from rs (e ∷ es) = unfinished_from (without_finished (with_started rs e.reply) e.call) es
+
+-- by its own entries, what a caller submitted and did not withdraw or collect since, in the order of submission
+abbrev pub outstanding : List Entry → List ℕ
+outstanding mine = outstanding_from [] mine
+
+-- by its own entries, what the target started and did not finish since, in the order of its starts
+abbrev pub unfinished : List Entry → List ℕ
+unfinished mine = unfinished_from [] mine
+
+-- of its own entries that submit, withdraw or collect the request, the last submits it
+abbrev pub Outstanding : List Entry → ℕ → Type 0
+Outstanding mine r = is_among r (outstanding mine) ≡ true
+
+-- of its own entries that start or finish the request, the last starts it
 abbrev pub Unfinished : List Entry → ℕ → Type 0
-Unfinished mine r = (1 ≤ times (is_start r) mine) × (times (is_finish r) mine ≡ 0)
+Unfinished mine r = is_among r (unfinished mine) ≡ true
 
 -- by its own entries, the target has finished what it started
 abbrev pub AllFinished : List Entry → Type 0

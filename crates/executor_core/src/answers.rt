@@ -1,12 +1,13 @@
 //! The answers of the board's own calls.
 use kj_base::{StepId, Words};
+use thiserror::Error;
 
 /// Why a submission was not taken.
-#[derive(Clone, Copy, Debug, PartialEq, Eq)]
+#[derive(Clone, Copy, Debug, PartialEq, Eq, Error)]
 pub enum NotTaken {
-    /// The executor was closed.
+    #[error("the executor was closed")]
     Closed,
-    /// Every request that there is room for was submitted.
+    #[error("every request that there is room for was submitted")]
     Full,
 }
 

@@ -9,6 +9,7 @@ mod call;
 mod chain;
 mod entries;
 mod entry;
+mod laws;
 mod request;
 mod search;
 #[cfg(test)]
@@ -19,4 +20,9 @@ pub use board::Board;
 pub use call::{Call, Reply};
 pub use entries::Entries;
 pub use entry::Entry;
+pub use laws::{
+    beginnings_are_legal, closed_is_settled, closed_where_a_close_stands, entry_opens_or_ends,
+    own_entries_tell, requests_are_submissions, requests_start_and_end_once,
+    target_starts_and_finishes,
+};
 pub use request::{Request, State};

@@ -1,4 +1,4 @@
-//! Every row of the table of calls, on one board of two requests.
+//! Every row of the table of calls, on one board of five requests.
 ghost use Rattle.std.specs.Prelude.{◌≡◌, ◌<◌, ◌≤◌, ℕ, length, true, false, slice_get, Some, vec_capacity};
 ghost use Rattle.executor_core.specs.Acts.{MayAct, IsOwn, IsRunning, NoneRuns, running_state, spent_state};
 
@@ -125,6 +125,13 @@ fn is_same(a: &Reply, b: &Reply) -> bool {
     }
 }
 
+fn disconnected() -> Outcome {
+    Outcome::Broken(Exception {
+        kind: Kind::Disconnected,
+        code: 3,
+    })
+}
+
 fn submit(value: u64) -> Call {
     Call::Submit {
         step: StepId(7),
@@ -143,7 +150,7 @@ fn start(request: u32, value: u64) -> Reply {
 #[test]
 fn the_board_answers_by_the_table(rt: HostRuntime) -> Result<(), Fail> {
     let alloc = rt.alloc();
-    let mut board = Board::new(alloc, 4)?;
+    let mut board = Board::new(alloc, 5)?;
     let finish = |request| Call::Finish {
         request,
         outcome: failed(2),
@@ -164,7 +171,6 @@ fn the_board_answers_by_the_table(rt: HostRuntime) -> Result<(), Fail> {
             (1, Call::Cancel { request: 0 }, Reply::Asked),
             (1, Call::Cancel { request: 0 }, Reply::TooLate),
             (1, submit(8), Reply::Ticket(3)),
-            (1, submit(9), Reply::Full),
             (0, Call::Next, start(3, 8)),
             (0, Call::Next, Reply::Stop(0)),
             (0, Call::Next, Reply::Stop(2)),
@@ -175,9 +181,16 @@ fn the_board_answers_by_the_table(rt: HostRuntime) -> Result<(), Fail> {
             (1, Call::Collect { request: 0 }, Reply::Ended(failed(2))),
             (0, finish(2), Reply::Done),
             (0, finish(3), Reply::Done),
+            (1, submit(4), Reply::Ticket(4)),
+            (1, submit(9), Reply::Full),
             (0, Call::Close, Reply::Done),
             (0, Call::Close, Reply::Done),
             (1, submit(9), Reply::Closed),
+            (
+                1,
+                Call::Collect { request: 4 },
+                Reply::Ended(disconnected()),
+            ),
             (0, Call::Collect { request: 2 }, Reply::Ended(failed(2))),
         ],
     )?;

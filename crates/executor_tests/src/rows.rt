@@ -1,12 +1,12 @@
 //! Calls of one thread on a small executor, worked out by hand, with the history that they leave.
 ghost use Rattle.std.specs.Prelude.{◌≡◌};
-ghost use Rattle.count_lock.specs.Passes.{mine, number, IsPassOf, IsResting, IsSamePass};
-ghost use Rattle.executor_core.specs.Histories.{Outstanding, AllFinished};
-ghost use Rattle.xthread.specs.Answers.{request};
-ghost use Rattle.xthread.specs.Told.{IsLegal};
+ghost use Rattle.xthread.specs.Told.{IsReady, Holds};
+ghost use Rattle.executor_tests.specs.Callers.{IsIdle, HasOne, IsIdleTarget};
 
+use crate::both::ask_both;
 use crate::item::Item;
 use crate::submitter::one_word;
+use crate::tally::Tally;
 use executor_core::{Call, Entry, NotTaken, Reply};
 use kj_base::{Exception, Kind, Outcome, StepId, Words};
 use std::process::Abort;
@@ -210,11 +210,8 @@ fn cancel_while_it_runs<W: Wait + Abort>(
     target: &mut ExecutorPass<Item, u64>,
     pass: &mut ExecutorPass<Item, u64>,
 )
-    requires target { IsPassOf executor.now.lock target.old × IsResting target.old × IsLegal target.old × (number target.old ≡ 0) × AllFinished (mine target.old) }
-    requires pass { IsPassOf executor.now.lock pass.old × IsResting pass.old × IsLegal pass.old }
-    ensures target { IsSamePass target.old target.new × IsResting target.new × IsLegal target.new }
-    ensures finished { AllFinished (mine target.new) }
-    ensures pass { IsSamePass pass.old pass.new × IsResting pass.new × IsLegal pass.new }
+    requires { IsIdleTarget executor.now.lock target.old × IsIdle executor.now.lock pass.old }
+    ensures { IsIdleTarget executor.now.lock target.new × IsIdle executor.now.lock pass.new }
 {
     let ticket = match executor.submit(rt, pass, StepId(7), one_word(5), item(1)) {
         Ok(ticket) => ticket,
@@ -251,9 +248,8 @@ fn collect_what_ran<W: Wait + Abort>(
     pass: &mut ExecutorPass<Item, u64>,
     ticket: Ticket,
 )
-    requires pass { IsPassOf executor.now.lock pass.old × IsResting pass.old × IsLegal pass.old }
-    requires own { Outstanding (mine pass.old) (request ticket) }
-    ensures pass { IsSamePass pass.old pass.new × IsResting pass.new × IsLegal pass.new }
+    requires { HasOne executor.now.lock pass.old ticket }
+    ensures { IsIdle executor.now.lock pass.new }
 {
     let ticket = match executor.cancel(rt, pass, ticket) {
         Cancelled::TooLate(ticket) => ticket,
@@ -276,9 +272,8 @@ fn close_with_one_queued<W: Wait + Abort>(
     target: &mut ExecutorPass<Item, u64>,
     pass: &mut ExecutorPass<Item, u64>,
 )
-    requires target { IsPassOf executor.now.lock target.old × IsResting target.old × IsLegal target.old × (number target.old ≡ 0) × AllFinished (mine target.old) }
-    requires pass { IsPassOf executor.now.lock pass.old × IsResting pass.old × IsLegal pass.old }
-    ensures target { IsSamePass target.old target.new × IsResting target.new × IsLegal target.new }
+    requires { IsIdleTarget executor.now.lock target.old × IsIdle executor.now.lock pass.old }
+    ensures { IsReady executor.now.lock target.new × IsIdle executor.now.lock pass.new }
 {
     let ticket = match executor.submit(rt, pass, StepId(7), one_word(5), item(2)) {
         Ok(ticket) => ticket,
@@ -308,6 +303,7 @@ fn a_request_is_cancelled_while_it_runs(rt: HostRuntime) -> Result<(), Fail> {
     };
     cancel_while_it_runs(&rt, &executor, &mut target, &mut pass);
     close_with_one_queued(&rt, &executor, &mut target, &mut pass);
+    executor.join(&mut target, pass);
     let entries = executor.history(&rt, target);
     let want = [
         submit(1, 0),
@@ -321,5 +317,132 @@ fn a_request_is_cancelled_while_it_runs(rt: HostRuntime) -> Result<(), Fail> {
         collect(1, 1, GONE),
     ];
     assert!(rt; is_same(entries.as_slice(), want.as_slice()));
+    Ok(())
+}
+
+// What the pass submits; the mark tells its payload from others with the same step and words.
+fn put<W: Wait + Abort>(
+    rt: &W,
+    executor: &Executor<Item, u64>,
+    pass: &mut ExecutorPass<Item, u64>,
+    mark: u64,
+) -> Ticket
+    requires { IsReady executor.now.lock pass.old }
+    ensures { IsReady executor.now.lock pass.new × Holds pass.new result }
+{
+    match executor.submit(rt, pass, StepId(7), one_word(5), item(mark)) {
+        Ok(ticket) => ticket,
+        Err(_) => panic!(rt; "not taken"),
+    }
+}
+
+fn run_one<W: Wait + Abort>(
+    rt: &W,
+    executor: &Executor<Item, u64>,
+    target: &mut ExecutorPass<Item, u64>,
+    mark: u64,
+    given: u64,
+)
+    requires { IsIdleTarget executor.now.lock target.old }
+    ensures { IsIdleTarget executor.now.lock target.new }
+{
+    let Next::Start(request, step, words, payload) = executor.next(rt, target) else {
+        panic!(rt; "nothing to start");
+    };
+    assert!(rt; is_of_row(step, &words, &payload, mark));
+    executor.finish(rt, target, request, Outcome::Broken(FAILED), given);
+}
+
+fn take_result<W: Wait + Abort>(
+    rt: &W,
+    executor: &Executor<Item, u64>,
+    pass: &mut ExecutorPass<Item, u64>,
+    ticket: Ticket,
+    want: u64,
+)
+    requires { IsReady executor.now.lock pass.old × Holds pass.old ticket }
+    ensures { IsReady executor.now.lock pass.new }
+{
+    match executor.collect(rt, pass, ticket) {
+        Collected::Ended(_, Back::Ran(given)) => assert!(rt; given == want),
+        Collected::Ended(_, Back::Unstarted(_)) => panic!(rt; "it ran"),
+        Collected::NotYet(_ticket) => panic!(rt; "not yet"),
+    }
+}
+
+fn take_unstarted<W: Wait + Abort>(
+    rt: &W,
+    executor: &Executor<Item, u64>,
+    pass: &mut ExecutorPass<Item, u64>,
+    ticket: Ticket,
+    mark: u64,
+)
+    requires { IsReady executor.now.lock pass.old × Holds pass.old ticket }
+    ensures { IsReady executor.now.lock pass.new }
+{
+    match executor.collect(rt, pass, ticket) {
+        Collected::Ended(_, Back::Unstarted(back)) => assert!(rt; back.mark == mark),
+        Collected::Ended(_, Back::Ran(_)) => panic!(rt; "it never ran"),
+        Collected::NotYet(_ticket) => panic!(rt; "not yet"),
+    }
+}
+
+fn take_withdrawn<W: Wait + Abort>(
+    rt: &W,
+    executor: &Executor<Item, u64>,
+    pass: &mut ExecutorPass<Item, u64>,
+    ticket: Ticket,
+    mark: u64,
+)
+    requires { IsReady executor.now.lock pass.old × Holds pass.old ticket }
+    ensures { IsReady executor.now.lock pass.new }
+{
+    match executor.cancel(rt, pass, ticket) {
+        Cancelled::Withdrawn(back) => assert!(rt; back.mark == mark),
+        Cancelled::Asked(_ticket) => panic!(rt; "asked"),
+        Cancelled::TooLate(_ticket) => panic!(rt; "too late"),
+    }
+}
+
+// Requests of two callers with the same step and words, two at a time: each caller gets back its own, run, withdrawn and closed.
+#[test]
+fn each_caller_gets_back_its_own(rt: HostRuntime) -> Result<(), Fail> {
+    let (executor, mut target) = Executor::<Item, u64>::new(rt.alloc(), 6)?;
+    let Ok(mut one) = executor.split(&mut target) else {
+        return Err(Fail::new("no number is spare"));
+    };
+    let Ok(mut two) = executor.split(&mut target) else {
+        return Err(Fail::new("no number is spare"));
+    };
+    let first = put(&rt, &executor, &mut one, 1);
+    let second = put(&rt, &executor, &mut two, 2);
+    run_one(&rt, &executor, &mut target, 1, 11);
+    run_one(&rt, &executor, &mut target, 2, 22);
+    take_result(&rt, &executor, &mut one, first, 11);
+    take_result(&rt, &executor, &mut two, second, 22);
+    let first = put(&rt, &executor, &mut one, 3);
+    let second = put(&rt, &executor, &mut two, 4);
+    take_withdrawn(&rt, &executor, &mut one, first, 3);
+    take_withdrawn(&rt, &executor, &mut two, second, 4);
+    let first = put(&rt, &executor, &mut one, 5);
+    let second = put(&rt, &executor, &mut two, 6);
+    executor.close(&rt, &mut target);
+    take_unstarted(&rt, &executor, &mut one, first, 5);
+    take_unstarted(&rt, &executor, &mut two, second, 6);
+    let entries = executor.history(&rt, target);
+    assert!(rt; entries.as_slice().len() == 17);
+    Ok(())
+}
+
+#[test]
+fn two_executors_keep_apart(rt: HostRuntime) -> Result<(), Fail> {
+    let (left, mut one) = Executor::<Item, u64>::new(rt.alloc(), 1)?;
+    let (right, mut two) = Executor::<Item, u64>::new(rt.alloc(), 1)?;
+    let mut tally = Tally::new();
+    ask_both(&rt, &left, &right, &mut one, &mut two, &mut tally);
+    assert!(rt; tally.withdrawn == 2);
+    let here = left.history(&rt, one);
+    let there = right.history(&rt, two);
+    assert!(rt; here.as_slice().len() == 2 && there.as_slice().len() == 2);
     Ok(())
 }

@@ -1,12 +1,10 @@
 //! A caller that submits, and ends by itself once its request has ended.
 ghost use Rattle.std.specs.Prelude.{◌≡◌, [], ◌∷◌};
-ghost use Rattle.count_lock.specs.Passes.{mine, number, IsPassOf, IsResting, IsSamePass};
-ghost use Rattle.executor_core.specs.Histories.{Outstanding, AllSpent};
-ghost use Rattle.xthread.specs.Answers.{request};
-ghost use Rattle.xthread.specs.Told.{IsLegal};
-ghost use Rattle.executor_core.specs.Histories.{AllSpentBut};
+ghost use Rattle.count_lock.specs.Passes.{IsSamePass};
+ghost use Rattle.executor_tests.specs.Callers.{IsIdle, HasOne};
 
 use crate::item::Item;
+use crate::tally::{Tally, count};
 use kj_base::{StepId, Words};
 use std::sync::Wait;
 use std::thread;
@@ -28,11 +26,11 @@ pub fn ask<W: Wait>(
     pass: &mut ExecutorPass<Item, u64>,
     word: u64,
     cancel: bool,
+    tally: &mut Tally,
 )
-    requires pass { IsPassOf executor.now.lock pass.old × IsResting pass.old × IsLegal pass.old }
-    requires spent { AllSpent (mine pass.old) }
-    ensures pass { IsSamePass pass.old pass.new × IsResting pass.new × IsLegal pass.new }
-    ensures spent { AllSpent (mine pass.new) }
+    requires { IsIdle executor.now.lock pass.old }
+    ensures same { IsSamePass pass.old pass.new }
+    ensures idle { IsIdle executor.now.lock pass.new }
 {
     let item = Item {
         step: 7,
@@ -41,13 +39,14 @@ pub fn ask<W: Wait>(
     };
     match executor.submit(rt, pass, StepId(7), one_word(word), item) {
         Ok(ticket) => {
+            count(&mut tally.taken);
             if cancel {
-                withdraw(rt, executor, pass, ticket)
+                withdraw(rt, executor, pass, ticket, tally)
             } else {
-                settle(rt, executor, pass, ticket)
+                settle(rt, executor, pass, ticket, tally)
             }
         }
-        Err(_) => {}
+        Err(_) => count(&mut tally.refused),
     }
 }
 
@@ -57,16 +56,19 @@ pub fn withdraw<W: Wait>(
     executor: &Executor<Item, u64>,
     pass: &mut ExecutorPass<Item, u64>,
     ticket: Ticket,
+    tally: &mut Tally,
 )
-    requires pass { IsPassOf executor.now.lock pass.old × IsResting pass.old × IsLegal pass.old }
-    requires own { Outstanding (mine pass.old) (request ticket) × AllSpentBut (request ticket) (mine pass.old) }
-    ensures pass { IsSamePass pass.old pass.new × IsResting pass.new × IsLegal pass.new }
-    ensures spent { AllSpent (mine pass.new) }
+    requires { HasOne executor.now.lock pass.old ticket }
+    ensures same { IsSamePass pass.old pass.new }
+    ensures idle { IsIdle executor.now.lock pass.new }
 {
     match executor.cancel(rt, pass, ticket) {
-        Cancelled::Withdrawn(_) => {}
-        Cancelled::Asked(ticket) => settle(rt, executor, pass, ticket),
-        Cancelled::TooLate(ticket) => settle(rt, executor, pass, ticket),
+        Cancelled::Withdrawn(_) => count(&mut tally.withdrawn),
+        Cancelled::Asked(ticket) => {
+            count(&mut tally.asked);
+            settle(rt, executor, pass, ticket, tally)
+        }
+        Cancelled::TooLate(ticket) => settle(rt, executor, pass, ticket, tally),
     }
 }
 
@@ -76,16 +78,19 @@ pub fn settle<W: Wait>(
     executor: &Executor<Item, u64>,
     pass: &mut ExecutorPass<Item, u64>,
     ticket: Ticket,
+    tally: &mut Tally,
 )
-    requires pass { IsPassOf executor.now.lock pass.old × IsResting pass.old × IsLegal pass.old }
-    requires own { Outstanding (mine pass.old) (request ticket) × AllSpentBut (request ticket) (mine pass.old) }
-    ensures pass { IsSamePass pass.old pass.new × IsResting pass.new × IsLegal pass.new }
-    ensures spent { AllSpent (mine pass.new) }
+    requires { HasOne executor.now.lock pass.old ticket }
+    ensures same { IsSamePass pass.old pass.new }
+    ensures idle { IsIdle executor.now.lock pass.new }
 {
     let mut ticket = ticket;
     for _ in rt.forever() {
         match executor.collect(rt, pass, ticket) {
-            Collected::Ended(_, _) => return,
+            Collected::Ended(_, _) => {
+                count(&mut tally.ended);
+                return;
+            }
             Collected::NotYet(back) => ticket = back,
         }
         thread::yield_now();

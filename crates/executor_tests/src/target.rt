@@ -1,9 +1,10 @@
-//! A target that runs one request at a time.
+//! A target that runs one request at a time, and finishes it at once.
 ghost use Rattle.std.specs.Prelude.{◌≡◌, true};
-ghost use Rattle.count_lock.specs.Passes.{constant, seen, mine, number, IsPassOf, IsResting, IsSamePass};
-ghost use Rattle.executor_core.specs.Histories.{AllFinished, Settled};
-ghost use Rattle.xthread.specs.Told.{IsLegal, board_seen};
+ghost use Rattle.count_lock.specs.Passes.{constant, seen, mine, number, IsSamePass};
+ghost use Rattle.executor_core.specs.Histories.{Settled};
+ghost use Rattle.xthread.specs.Told.{IsReady, board_seen};
 ghost use Rattle.executor_tests.specs.Turns.{IsTurn};
+ghost use Rattle.executor_tests.specs.Callers.{IsIdleTarget};
 
 use crate::item::Item;
 use kj_base::Outcome;
@@ -18,11 +19,9 @@ pub fn serve_once<W: Wait>(
     executor: &Executor<Item, u64>,
     pass: &mut ExecutorPass<Item, u64>,
 ) -> bool
-    requires pass { IsPassOf executor.now.lock pass.old × IsResting pass.old × IsLegal pass.old }
-    requires target { number pass.old ≡ 0 }
-    requires finished { AllFinished (mine pass.old) }
-    ensures pass { IsSamePass pass.old pass.new × IsResting pass.new × IsLegal pass.new }
-    ensures finished { AllFinished (mine pass.new) }
+    requires { IsIdleTarget executor.now.lock pass.old }
+    ensures same { IsSamePass pass.old pass.new }
+    ensures idle { IsIdleTarget executor.now.lock pass.new }
     ensures turn { IsTurn (mine pass.old) (mine pass.new) result }
 {
     match executor.next(rt, pass) {
@@ -43,10 +42,9 @@ pub fn serve<W: Wait>(
     done: &AtomicU32,
     callers: u32,
 )
-    requires pass { IsPassOf executor.now.lock pass.old × IsResting pass.old × IsLegal pass.old }
-    requires target { number pass.old ≡ 0 }
-    requires finished { AllFinished (mine pass.old) }
-    ensures pass { IsSamePass pass.old pass.new × IsResting pass.new × IsLegal pass.new }
+    requires { IsIdleTarget executor.now.lock pass.old }
+    ensures same { IsSamePass pass.old pass.new }
+    ensures ready { IsReady executor.now.lock pass.new }
     ensures closed { (board_seen pass.new).closed ≡ true }
     ensures settled { Settled (constant pass.new) (seen pass.new) }
 {

@@ -17,7 +17,7 @@ use Rattle.executor_core.specs.declared.call.Reply.{Reply}
 use Rattle.executor_core.specs.Acts.{Desk, act, MayAct, is_queued, queued_state, set_state, new_request, shut, disconnected}
 use Rattle.executor_core.specs.Histories.{entry, Legal, board_of, starts_in, is_start}
 use Rattle.executor_core.proofs.Answered.{grows}
-use Rattle.executor_core.proofs.Laws.{short, starts_same}
+use Rattle.executor_core.proofs.Legal.{short, starts_same}
 use Rattle.executor_core.proofs.Steps.{at_state, get_snoc, get_else, past}
 use Rattle.xthread.specs.Answers.{BackTells}
 use Rattle.xthread.specs.declared.answers.Back.{Back}

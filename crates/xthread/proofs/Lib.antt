@@ -1,3 +1,3 @@
 pub mod Grows
 pub mod Effects
-pub mod Turns
+pub mod Whole

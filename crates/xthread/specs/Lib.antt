@@ -1,3 +1,4 @@
 pub mod Stock
 pub mod Answers
 pub mod Told
+pub mod Turns

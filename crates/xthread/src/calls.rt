@@ -1,11 +1,11 @@
 //! The calls of a submitter.
 ghost use Rattle.std.specs.Prelude.{◌≡◌, IfOk, IfErr};
-ghost use Rattle.count_lock.specs.Passes.{seen, mine, number, IsPassOf, IsResting};
+ghost use Rattle.count_lock.specs.Passes.{seen, mine, number};
 ghost use Rattle.executor_core.specs.declared.call.Call.TheVariants.{Submit};
 ghost use Rattle.executor_core.specs.Acts.{refusal_reply};
-ghost use Rattle.executor_core.specs.Histories.{entry, Outstanding};
+ghost use Rattle.executor_core.specs.Histories.{entry, times, is_submit};
 ghost use Rattle.xthread.specs.Answers.{request, CancelTells, CollectTells};
-ghost use Rattle.xthread.specs.Told.{IsLegal, Told, Gains, Stays, board_seen};
+ghost use Rattle.xthread.specs.Told.{IsReady, Holds, Told, Gains, Stays, board_seen};
 
 use crate::answers::{Cancelled, Collected};
 use crate::executor::{Executor, ExecutorPass};
@@ -24,30 +24,30 @@ impl<P: Sent + Drop, R: Send + Drop> Executor<P, R> {
         words: Words,
         payload: P,
     ) -> Result<Ticket, (NotTaken, P)>
-        requires pass { IsPassOf self.now.lock pass.old × IsResting pass.old × IsLegal pass.old }
+        requires pass { IsReady self.now.lock pass.old }
         requires fits { P.fits payload step.0 words }
-        ensures told { Told pass.old pass.new }
-        ensures ok { IfOk result (λ t. Gains pass.old pass.new (entry (number pass.old) (Submit step words) (Reply.Ticket (request t))) × Outstanding (mine pass.new) (request t)) }
+        ensures told { Told self.now.lock pass.old pass.new }
+        ensures gains { IfOk result (λ t. Gains pass.old pass.new (entry (number pass.old) (Submit step words) (Reply.Ticket (request t)))) }
+        ensures holds { IfOk result (λ t. Holds pass.new t) }
+        ensures fresh { IfOk result (λ t. times (is_submit (request t)) (mine pass.old) ≡ 0) }
         ensures err { IfErr result (λ e. Stays pass.old pass.new (Submit step words) (refusal_reply e.0) × (e.1 ≡ payload)) }
     {
-        let mut held = self.lock.acquire(rt, pass);
         let caller = pass.number();
+        let owner = pass.owner();
         let said = words.copy();
+        let mut held = self.take(rt, pass);
         match held.value_mut().submit(caller, step, words, payload) {
             Ok(request) => {
-                held.release(
-                    &self.lock,
-                    pass,
-                    Entry {
-                        caller,
-                        call: Call::Submit { step, words: said },
-                        reply: Reply::Ticket(request),
-                    },
-                );
-                Ok(Ticket { request })
+                let entry = Entry {
+                    caller,
+                    call: Call::Submit { step, words: said },
+                    reply: Reply::Ticket(request),
+                };
+                self.note(held, pass, entry);
+                Ok(Ticket { request, owner })
             }
             Err(refused) => {
-                held.release_unchanged(&self.lock, pass);
+                self.leave(held, pass);
                 Err(refused)
             }
         }
@@ -60,41 +60,45 @@ impl<P: Sent + Drop, R: Send + Drop> Executor<P, R> {
         pass: &mut ExecutorPass<P, R>,
         ticket: Ticket,
     ) -> Cancelled<P>
-        requires pass { IsPassOf self.now.lock pass.old × IsResting pass.old × IsLegal pass.old }
-        requires own { Outstanding (mine pass.old) (request ticket) }
-        ensures told { Told pass.old pass.new }
-        ensures answer { CancelTells P.fits (Gains pass.old pass.new) (Stays pass.old pass.new) (mine pass.new) (board_seen pass.new) (number pass.old) (request ticket) result }
+        requires pass { IsReady self.now.lock pass.old }
+        requires holds { Holds pass.old ticket }
+        ensures told { Told self.now.lock pass.old pass.new }
+        ensures answer { CancelTells P.fits (Gains pass.old pass.new) (Stays pass.old pass.new) (Holds pass.new) (board_seen pass.new) (number pass.old) ticket result }
     {
-        let mut held = self.lock.acquire(rt, pass);
         let caller = pass.number();
-        let request = ticket.request();
+        let call = Call::Cancel {
+            request: ticket.request,
+        };
+        let mut held = self.take(rt, pass);
         match held.value_mut().cancel(caller, ticket) {
             Cancelled::Withdrawn(payload) => {
-                held.release(
-                    &self.lock,
+                let reply = Reply::Withdrawn;
+                self.note(
+                    held,
                     pass,
                     Entry {
                         caller,
-                        call: Call::Cancel { request },
-                        reply: Reply::Withdrawn,
+                        call,
+                        reply,
                     },
                 );
                 Cancelled::Withdrawn(payload)
             }
             Cancelled::Asked(ticket) => {
-                held.release(
-                    &self.lock,
+                let reply = Reply::Asked;
+                self.note(
+                    held,
                     pass,
                     Entry {
                         caller,
-                        call: Call::Cancel { request },
-                        reply: Reply::Asked,
+                        call,
+                        reply,
                     },
                 );
                 Cancelled::Asked(ticket)
             }
             Cancelled::TooLate(ticket) => {
-                held.release_unchanged(&self.lock, pass);
+                self.leave(held, pass);
                 Cancelled::TooLate(ticket)
             }
         }
@@ -108,29 +112,32 @@ impl<P: Sent + Drop, R: Send + Drop> Executor<P, R> {
         pass: &mut ExecutorPass<P, R>,
         ticket: Ticket,
     ) -> Collected<P, R>
-        requires pass { IsPassOf self.now.lock pass.old × IsResting pass.old × IsLegal pass.old }
-        requires own { Outstanding (mine pass.old) (request ticket) }
-        ensures told { Told pass.old pass.new }
-        ensures answer { CollectTells P.fits (Gains pass.old pass.new) (Stays pass.old pass.new) (mine pass.new) (board_seen pass.new) (seen pass.new) (number pass.old) (request ticket) result }
+        requires pass { IsReady self.now.lock pass.old }
+        requires holds { Holds pass.old ticket }
+        ensures told { Told self.now.lock pass.old pass.new }
+        ensures answer { CollectTells P.fits (Gains pass.old pass.new) (Stays pass.old pass.new) (Holds pass.new) (board_seen pass.new) (seen pass.new) (number pass.old) ticket result }
     {
-        let mut held = self.lock.acquire(rt, pass);
         let caller = pass.number();
-        let request = ticket.request();
+        let call = Call::Collect {
+            request: ticket.request,
+        };
+        let mut held = self.take(rt, pass);
         match held.value_mut().collect(caller, ticket) {
             Collected::Ended(outcome, back) => {
-                held.release(
-                    &self.lock,
+                let reply = Reply::Ended(outcome.copy());
+                self.note(
+                    held,
                     pass,
                     Entry {
                         caller,
-                        call: Call::Collect { request },
-                        reply: Reply::Ended(outcome.copy()),
+                        call,
+                        reply,
                     },
                 );
                 Collected::Ended(outcome, back)
             }
             Collected::NotYet(ticket) => {
-                held.release_unchanged(&self.lock, pass);
+                self.leave(held, pass);
                 Collected::NotYet(ticket)
             }
         }

@@ -4,7 +4,7 @@ ghost use Rattle.std.specs.Bool.{OnTrue, OnFalse};
 ghost use Rattle.executor_core.specs.declared.call.Call.TheVariants.{Submit, Next, Finish, Cancel, Collect, Close};
 ghost use Rattle.executor_core.specs.declared.call.Reply.TheVariants.{Done};
 ghost use Rattle.executor_core.specs.Acts.{act, refusal_reply};
-ghost use Rattle.executor_core.specs.Histories.{entry, board_of, of_caller, Outstanding, Unfinished, AllFinished, Legal};
+ghost use Rattle.executor_core.specs.Histories.{entry, board_of, of_caller, times, is_submit, Outstanding, Unfinished, AllFinished, Legal};
 ghost use Rattle.xthread.specs.Stock.{Book, book, Grown, Sound};
 ghost use Rattle.xthread.specs.Answers.{request, board, Unchanged, NextTells, CancelTells, CollectTells};
 
@@ -81,8 +81,10 @@ impl<P: Sent + Drop, R: Send + Drop> Guarded<P, R> {
     ) -> Result<u32, (NotTaken, P)>
         requires { P.fits payload step.0 words }
         ensures sound { Sound self.new }
-        ensures ok { IfOk result (λ r. Grown self.old self.new (entry caller (Submit step words) (Reply.Ticket r)) × Outstanding (of_caller caller self.new.entries) r) }
-        ensures err { IfErr result (λ e. (self.new ≡ self.old) × (e.1 ≡ payload) × ((act (board_of self.old.limit self.old.entries) caller (Submit step words)).1 ≡ refusal_reply e.0)) }
+        ensures grown { IfOk result (λ r. Grown self.old self.new (entry caller (Submit step words) (Reply.Ticket r))) }
+        ensures own { IfOk result (λ r. Outstanding (of_caller caller self.new.entries) r) }
+        ensures fresh { IfOk result (λ r. times (is_submit r) (of_caller caller self.old.entries) ≡ 0) }
+        ensures err { IfErr result (λ e. Unchanged self.old self.new caller (Submit step words) (refusal_reply e.0) × (e.1 ≡ payload)) }
     {
         match self.board.submit(caller, step, words.copy()) {
             Ok(request) => {
@@ -100,7 +102,7 @@ impl<P: Sent + Drop, R: Send + Drop> Guarded<P, R> {
 
     pub(crate) fn next(&mut self) -> Next<P>
         ensures sound { Sound self.new }
-        ensures told { NextTells P.fits (Grown self.old self.new) (Unchanged self.old self.new 0) (of_caller 0 self.new.entries) result }
+        ensures told { NextTells P.fits (Grown self.old self.new) (Unchanged self.old self.new 0) (of_caller 0 self.old.entries) (of_caller 0 self.new.entries) result }
     {
         match self.board.next() {
             Chosen::Start {
@@ -149,9 +151,9 @@ impl<P: Sent + Drop, R: Send + Drop> Guarded<P, R> {
     pub(crate) fn cancel(&mut self, caller: u32, ticket: Ticket) -> Cancelled<P>
         requires { Outstanding (of_caller caller self.old.entries) (request ticket) }
         ensures sound { Sound self.new }
-        ensures told { CancelTells P.fits (Grown self.old self.new) (Unchanged self.old self.new caller) (of_caller caller self.new.entries) (board self.new) caller (request ticket) result }
+        ensures told { CancelTells P.fits (Grown self.old self.new) (Unchanged self.old self.new caller) (λ t. Outstanding (of_caller caller self.new.entries) (request t)) (board self.new) caller ticket result }
     {
-        let Ticket { request } = ticket;
+        let Ticket { request, owner } = ticket;
         match self.board.cancel(request) {
             Cancelling::Withdrawn => {
                 let payload = take_payload(&mut self.places, request);
@@ -168,18 +170,18 @@ impl<P: Sent + Drop, R: Send + Drop> Guarded<P, R> {
                     call: Call::Cancel { request },
                     reply: Reply::Asked,
                 });
-                Cancelled::Asked(Ticket { request })
+                Cancelled::Asked(Ticket { request, owner })
             }
-            Cancelling::TooLate => Cancelled::TooLate(Ticket { request }),
+            Cancelling::TooLate => Cancelled::TooLate(Ticket { request, owner }),
         }
     }
 
     pub(crate) fn collect(&mut self, caller: u32, ticket: Ticket) -> Collected<P, R>
         requires { Outstanding (of_caller caller self.old.entries) (request ticket) }
         ensures sound { Sound self.new }
-        ensures told { CollectTells P.fits (Grown self.old self.new) (Unchanged self.old self.new caller) (of_caller caller self.new.entries) (board self.new) self.new.entries caller (request ticket) result }
+        ensures told { CollectTells P.fits (Grown self.old self.new) (Unchanged self.old self.new caller) (λ t. Outstanding (of_caller caller self.new.entries) (request t)) (board self.new) self.new.entries caller ticket result }
     {
-        let Ticket { request } = ticket;
+        let Ticket { request, owner } = ticket;
         match self.board.collect(request) {
             Some(outcome) => {
                 let back = take_back(&mut self.places, request);
@@ -190,7 +192,7 @@ impl<P: Sent + Drop, R: Send + Drop> Guarded<P, R> {
                 });
                 Collected::Ended(outcome, back)
             }
-            None => Collected::NotYet(Ticket { request }),
+            None => Collected::NotYet(Ticket { request, owner }),
         }
     }
 

@@ -13,6 +13,7 @@ mod sharing;
 mod stock;
 mod target;
 mod ticket;
+mod turns;
 
 pub use answers::{Back, Cancelled, Collected, Next};
 pub use executor::{Executor, ExecutorPass};

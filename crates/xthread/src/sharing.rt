@@ -1,9 +1,9 @@
 //! How an executor begins and ends, and how its passes are split and joined.
-ghost use Rattle.std.specs.Prelude.{◌≡◌, ◌+◌, ◌-◌, ◌/◌, ◌≤◌, [], IfOk, IfErr};
-ghost use Rattle.count_lock.specs.Passes.{constant, seen, mine, number, first_spare, end_spare, IsPassOf, IsResting, IsSamePass, IsUnsplit, Accounts};
-ghost use Rattle.count_lock.specs.Rule.{StartsWith, longer, of};
-ghost use Rattle.executor_core.specs.Histories.{Legal, AllSpent};
-ghost use Rattle.xthread.specs.Told.{IsLegal};
+ghost use Rattle.std.specs.Prelude.{◌≡◌, ◌+◌, ◌-◌, ◌/◌, ◌≤◌, [], ◌++◌, true, IfOk, IfErr};
+ghost use Rattle.count_lock.specs.Passes.{constant, seen, mine, kin, family_of, number, first_spare, end_spare, IsSamePass, IsUnsplit, Accounts};
+ghost use Rattle.count_lock.specs.Rule.{StartsWith, longer, of, Made};
+ghost use Rattle.executor_core.specs.Histories.{Legal, board_of, AllSpent, Settled};
+ghost use Rattle.xthread.specs.Told.{caller_of, IsReady};
 
 use crate::executor::{Executor, ExecutorPass};
 use crate::guarded::Guarded;
@@ -21,7 +21,9 @@ impl<P: Sent + Drop, R: Send + Drop> Executor<P, R> {
         requests: u32,
     ) -> Result<(Executor<P, R>, ExecutorPass<P, R>), NoMemory>
         requires { (1 ≤ requests) × (requests ≤ 1048576) }
-        ensures { IfOk result (λ r. IsPassOf r.0.lock r.1 × IsResting r.1 × IsLegal r.1 × (constant r.1 ≡ requests) × (number r.1 ≡ 0) × IsUnsplit r.1 × (seen r.1 ≡ []) × (mine r.1 ≡ [])) }
+        ensures ready { IfOk result (λ r. IsReady r.0.lock r.1) }
+        ensures target { IfOk result (λ r. (constant r.1 ≡ requests) × (number r.1 ≡ 0) × IsUnsplit r.1) }
+        ensures empty { IfOk result (λ r. (seen r.1 ≡ []) × (mine r.1 ≡ []) × (kin r.1 ≡ [])) }
     {
         let guarded = Guarded::new(alloc, requests)?;
         match CountLock::new(alloc, guarded, 0) {
@@ -32,35 +34,43 @@ impl<P: Sent + Drop, R: Send + Drop> Executor<P, R> {
 
     /// A pass with a number of its own, which has seen as much.
     pub fn split(&self, pass: &mut ExecutorPass<P, R>) -> Result<ExecutorPass<P, R>, SplitRefused>
-        requires { IsPassOf self.now.lock pass.old × IsResting pass.old × IsLegal pass.old }
-        ensures pass { IsPassOf self.now.lock pass.new × IsResting pass.new × IsLegal pass.new × (number pass.new ≡ number pass.old) × (constant pass.new ≡ constant pass.old) × (seen pass.new ≡ seen pass.old) × (mine pass.new ≡ mine pass.old) }
-        ensures ok { IfOk result (λ p. IsPassOf self.now.lock p × IsResting p × IsLegal p × (constant p ≡ constant pass.old) × (seen p ≡ seen pass.old) × (mine p ≡ []) × (number p ≡ first_spare pass.old)) }
+        requires { IsReady self.now.lock pass.old }
+        ensures ready { IsReady self.now.lock pass.new × (number pass.new ≡ number pass.old) }
+        ensures same { (seen pass.new ≡ seen pass.old) × (mine pass.new ≡ mine pass.old) × (kin pass.new ≡ kin pass.old) }
+        ensures ok { IfOk result (λ p. IsReady self.now.lock p × (number p ≡ first_spare pass.old)) }
+        ensures made { IfOk result (λ p. (seen p ≡ seen pass.old) × (mine p ≡ []) × (kin p ≡ [])) }
         ensures spare { IfOk result (λ p. (first_spare pass.new ≡ first_spare pass.old + 1) × (end_spare pass.new ≡ first_spare p) × (end_spare p ≡ end_spare pass.old)
             × (first_spare p + (end_spare pass.old - first_spare pass.old - 1) / 2 ≡ end_spare pass.old)) }
-        ensures accounts { IfOk result (λ p. Accounts (λ e. e.caller) pass.new (seen pass.new) × Accounts (λ e. e.caller) p (seen p)) }
+        ensures accounts { IfOk result (λ p. Accounts caller_of pass.new (seen pass.new) × Accounts caller_of p (seen p)) }
         ensures err { IfErr result (λ _. (first_spare pass.old ≡ end_spare pass.old) × IsSamePass pass.old pass.new) }
     {
         self.lock.split(pass)
     }
 
-    /// The pass then has the longer of what both have seen. All that the other submitted has to be withdrawn or collected.
+    /// The pass then has the longer of what both have seen. All that the other submitted has to be withdrawn or collected. What the
+    /// other made is all that ever has its number.
     pub fn join(&self, into: &mut ExecutorPass<P, R>, from: ExecutorPass<P, R>)
-        requires into { IsPassOf self.now.lock into.old × IsResting into.old × IsLegal into.old }
-        requires from { IsPassOf self.now.lock from × IsResting from × IsLegal from × (constant from ≡ constant into.old) }
+        requires into { IsReady self.now.lock into.old }
+        requires from { IsReady self.now.lock from }
         requires spent { AllSpent (mine from) }
-        ensures pass { IsSamePass into.old into.new × IsResting into.new × IsLegal into.new × (mine into.new ≡ mine into.old) }
+        ensures ready { IsReady self.now.lock into.new }
+        ensures same { IsSamePass into.old into.new × (mine into.new ≡ mine into.old) }
+        ensures kin { kin into.new ≡ family_of from ++ kin into.old }
         ensures seen { (seen into.new ≡ longer (seen into.old) (seen from)) × StartsWith (seen into.new) (seen into.old) × StartsWith (seen into.new) (seen from) }
-        ensures accounts { Accounts (λ e. e.caller) into.new (seen into.new) }
+        ensures accounts { Accounts caller_of into.new (seen into.new) }
     {
         self.lock.join(into, from);
     }
 
-    /// Waits for its turn, ends the executor and gives its whole history.
+    /// Waits for its turn, ends the executor and gives its whole history: the pass's own entries, and those of each pass that was
+    /// joined into it, are in it once.
     pub fn history<W: Wait>(self, rt: &W, pass: ExecutorPass<P, R>) -> Entries
-        requires { IsPassOf self.lock pass × IsResting pass × IsLegal pass }
+        requires { IsReady self.lock pass }
         ensures seen { StartsWith result (seen pass) }
-        ensures mine { of (λ e. e.caller) (number pass) result ≡ mine pass }
+        ensures mine { of caller_of (number pass) result ≡ mine pass }
+        ensures kin { Made caller_of result (kin pass) }
         ensures legal { Legal (constant pass) result }
+        ensures settled { (board_of (constant pass) result).closed ≡ true → Settled (constant pass) result }
     {
         let Executor { lock } = self;
         lock.close(rt, pass).into_entries()

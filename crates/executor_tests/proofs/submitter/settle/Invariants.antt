@@ -1,9 +1,6 @@
-use Rattle.count_lock.specs.Passes.{mine, IsPassOf, IsResting, IsSamePass}
-use Rattle.executor_core.specs.Histories.{Outstanding}
-use Rattle.xthread.specs.Answers.{request}
-use Rattle.xthread.specs.Told.{IsLegal}
-use Rattle.executor_core.specs.Histories.{AllSpentBut}
+use Rattle.count_lock.specs.Passes.{IsSamePass}
+use Rattle.executor_tests.specs.Callers.{HasOne}
 use Rattle.executor_tests.proofs.submitter.settle.Given as goal
 
 abbrev pub invariant-loop : goal.invariant-loop
-invariant-loop g l = IsPassOf l.executor.lock l.pass × IsSamePass l.initial.pass l.pass × IsResting l.pass × IsLegal l.pass × Outstanding (mine l.pass) (request l.ticket) × AllSpentBut (request l.ticket) (mine l.pass)
+invariant-loop g l = IsSamePass l.initial.pass l.pass × HasOne l.executor.lock l.pass l.ticket

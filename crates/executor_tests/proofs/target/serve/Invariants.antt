@@ -1,8 +1,6 @@
-use Rattle.std.proofs.Common.{◌≡◌}
-use Rattle.count_lock.specs.Passes.{mine, number, IsPassOf, IsResting, IsSamePass}
-use Rattle.executor_core.specs.Histories.{AllFinished}
-use Rattle.xthread.specs.Told.{IsLegal}
+use Rattle.count_lock.specs.Passes.{IsSamePass}
+use Rattle.executor_tests.specs.Callers.{IsIdleTarget}
 use Rattle.executor_tests.proofs.target.serve.Given as goal
 
 abbrev pub invariant-loop : goal.invariant-loop
-invariant-loop g l = IsPassOf l.executor.lock l.pass × IsSamePass l.initial.pass l.pass × IsResting l.pass × IsLegal l.pass × (number l.pass ≡ 0) × AllFinished (mine l.pass)
+invariant-loop g l = IsSamePass l.initial.pass l.pass × IsIdleTarget l.executor.lock l.pass

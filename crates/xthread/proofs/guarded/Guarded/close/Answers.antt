@@ -1,9 +1,7 @@
-use Rattle.std.proofs.Common.{arith, ap, sym, ◌∙◌, ◌≡◌, subst, refl, true, false, Bool}
-use Rattle.std.specs.Prelude.{vec_capacity}
-use Rattle.executor_core.specs.Histories.{of_caller, AllFinished}
+use Rattle.std.proofs.Common.{arith, ap, sym, ◌∙◌, ◌≡◌, refl, true, false, Bool}
 use Rattle.executor_core.proofs.Answered.{close_closed}
-use Rattle.xthread.proofs.Grows.{whole_same, sound}
-use Rattle.xthread.proofs.Effects.{none_runs, close_kept}
+use Rattle.xthread.proofs.Grows.{whole_same}
+use Rattle.xthread.proofs.Effects.{grown, arm_sound, arm_board, same_sound, none_runs, close_arm}
 use Rattle.xthread.proofs.guarded.Guarded.close.Goals as goal
 
 truth : (b : Bool) → (b ≡ false → ⊥) → b ≡ true
@@ -11,20 +9,21 @@ truth true h = refl
 truth false h = absurd (h refl)
 
 pub close-requires : goal.close-requires
-close-requires g c = let i = c.self.inside in let inv = c.self.invariant in let fits = g.P.Sent.fits in let u = subst (λ a. AllFinished (of_caller 0 a.entries)) (sym c.self.view_is) c.requires in let none = none_runs fits i.board i.log.items (vec_capacity i.log) i.places.items (vec_capacity i.places) inv u in none
+close-requires g c = none_runs c.self.invariant c.self.view_is c.requires
 
 pub returns-then-not-close-clause-sound : goal.returns-then-not-close-clause-sound
-returns-then-not-close-clause-sound g c = let i = c.self.inside in let inv = c.self.invariant in let fits = g.P.Sent.fits in let shut = truth i.board.closed (λ z. let t = c.close.ensures.«open».1 z in let f = c.if-not-close.true in cc) in
-    sound fits _ _ _ _ _ (whole_same fits i.board c.close.new.self _ _ _ _ inv (close_closed i.board c.close.new.self shut c.close.ensures.board))
+returns-then-not-close-clause-sound g c = let shut = truth c.self.inside.board.closed (λ z. let t = c.close.ensures.«open».1 z in let f = c.if-not-close.true in cc) in
+    same_sound c.self.invariant (close_closed c.self.inside.board c.close.new.self shut c.close.ensures.board)
 
 pub push_reserved-requires : goal.push_reserved-requires
-push_reserved-requires g c = let i = c.self.inside in let inv = c.self.invariant in let fits = g.P.Sent.fits in let u = subst (λ a. AllFinished (of_caller 0 a.entries)) (sym c.self.view_is) c.requires in let none = none_runs fits i.board i.log.items (vec_capacity i.log) i.places.items (vec_capacity i.places) inv u in let k = close_kept fits i.board c.close.new.self i.log.items (vec_capacity i.log) i.places.items (vec_capacity i.places) inv none (c.close.ensures.«open».0 (c.if-not-close.false)) c.close.ensures.board in let h = k.0 in let ok = i.log.ok.0 in omega arith
+push_reserved-requires g c = let h = (close_arm c.self.invariant (none_runs c.self.invariant c.self.view_is c.requires) (c.close.ensures.«open».0 c.if-not-close.false) c.close.ensures.board).0.has_room in let ok = c.self.inside.log.ok.0 in omega arith
 
 pub invariant_of-self-2 : goal.invariant_of-self-2
-invariant_of-self-2 g c = let i = c.self.inside in let inv = c.self.invariant in let fits = g.P.Sent.fits in let u = subst (λ a. AllFinished (of_caller 0 a.entries)) (sym c.self.view_is) c.requires in let none = none_runs fits i.board i.log.items (vec_capacity i.log) i.places.items (vec_capacity i.places) inv u in let k = close_kept fits i.board c.close.new.self i.log.items (vec_capacity i.log) i.places.items (vec_capacity i.places) inv none (c.close.ensures.«open».0 (c.if-not-close.false)) c.close.ensures.board in (k.1 _ _ _ _ c.push_reserved.ensures.items c.push_reserved.ensures.capacity refl refl)
+invariant_of-self-2 g c = (close_arm c.self.invariant (none_runs c.self.invariant c.self.view_is c.requires) (c.close.ensures.«open».0 c.if-not-close.false) c.close.ensures.board).0.whole _ _ _ _ c.push_reserved.ensures.items c.push_reserved.ensures.capacity refl refl
 
 pub returns-clause-sound : goal.returns-clause-sound
-returns-clause-sound g c = let i = c.self.inside in let inv = c.self.invariant in let fits = g.P.Sent.fits in let u = subst (λ a. AllFinished (of_caller 0 a.entries)) (sym c.self.view_is) c.requires in let none = none_runs fits i.board i.log.items (vec_capacity i.log) i.places.items (vec_capacity i.places) inv u in let k = close_kept fits i.board c.close.new.self i.log.items (vec_capacity i.log) i.places.items (vec_capacity i.places) inv none (c.close.ensures.«open».0 (c.if-not-close.false)) c.close.ensures.board in sound fits _ _ _ _ _ (k.1 _ _ _ _ c.push_reserved.ensures.items c.push_reserved.ensures.capacity refl refl)
+returns-clause-sound g c = arm_sound (close_arm c.self.invariant (none_runs c.self.invariant c.self.view_is c.requires) (c.close.ensures.«open».0 c.if-not-close.false) c.close.ensures.board).0 c.push_reserved.ensures.items
 
 pub returns-clause-closed : goal.returns-clause-closed
-returns-clause-closed g c = let i = c.self.inside in let inv = c.self.invariant in let fits = g.P.Sent.fits in let u = subst (λ a. AllFinished (of_caller 0 a.entries)) (sym c.self.view_is) c.requires in let none = none_runs fits i.board i.log.items (vec_capacity i.log) i.places.items (vec_capacity i.places) inv u in let k = close_kept fits i.board c.close.new.self i.log.items (vec_capacity i.log) i.places.items (vec_capacity i.places) inv none (c.close.ensures.«open».0 (c.if-not-close.false)) c.close.ensures.board in let all = (k.1 _ _ _ _ c.push_reserved.ensures.items c.push_reserved.ensures.capacity refl refl) in ap (λ d. d.closed) (sym all.board_is) ∙ k.3
+returns-clause-closed g c = let k = close_arm c.self.invariant (none_runs c.self.invariant c.self.view_is c.requires) (c.close.ensures.«open».0 c.if-not-close.false) c.close.ensures.board in
+    ap (λ d. d.closed) (sym (arm_board k.0 c.push_reserved.ensures.items)) ∙ k.1

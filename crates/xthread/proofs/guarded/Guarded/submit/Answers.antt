@@ -1,16 +1,12 @@
-use Rattle.std.proofs.Common.{arith, ap, sym, ◌∙◌, ◌≡◌, subst, ◌++◌, ◌∷◌, [], List}
-use Rattle.std.specs.Prelude.{vec_capacity, ℕ, Err}
+use Rattle.std.proofs.Common.{arith, ap, ◌∙◌, ◌≡◌, ◌++◌, ◌∷◌, [], List}
+use Rattle.std.specs.Prelude.{ℕ, Err}
 use Rattle.kj_base.specs.declared.numbers.StepId.{StepId}
 use Rattle.executor_core.specs.declared.answers.NotTaken.{NotTaken}
 use Rattle.executor_core.specs.declared.answers.NotTaken.TheVariants as refusal
-use Rattle.executor_core.specs.declared.call.Call.TheVariants as call
-use Rattle.executor_core.specs.declared.call.Reply.TheVariants as reply
 use Rattle.executor_core.specs.Acts.{Desk, submitted, submit_reply}
-use Rattle.executor_core.specs.Histories.{entry, of_caller, Outstanding}
 use Rattle.executor_core.proofs.Answered.{submit_closed, submit_full}
-use Rattle.xthread.specs.Stock.{book}
-use Rattle.xthread.proofs.Grows.{whole_same, sound}
-use Rattle.xthread.proofs.Effects.{submit_kept}
+use Rattle.xthread.proofs.Grows.{whole_same}
+use Rattle.xthread.proofs.Effects.{answered, grown, arm_sound, same_sound, submit_arm, submit_fresh, submit_own}
 use Rattle.xthread.proofs.guarded.Guarded.submit.Goals as goal
 
 refusal_same : (d : Desk) (k : ℕ) (step : StepId) (words : List ℕ) (d' : Desk) (e : NotTaken) → (d', submit_reply (Err e)) ≡ submitted d k step words → d' ≡ d
@@ -18,22 +14,33 @@ refusal_same d k step words d' refusal.Closed e = submit_closed d k step words d
 refusal_same d k step words d' refusal.Full e = submit_full d k step words d' e
 
 pub push_reserved-requires : goal.push_reserved-requires
-push_reserved-requires g c = let i = c.self.inside in let inv = c.self.invariant in let fits = g.P.Sent.fits in let did = ap (λ z. (c.submit.new.self, submit_reply z)) (sym c.in-Ok.is) ∙ c.submit.ensures ∙ ap (submitted i.board c.args.caller c.args.step) c.copy.ensures in let k = submit_kept fits i.board c.submit.new.self i.log.items (vec_capacity i.log) i.places.items (vec_capacity i.places) c.args.caller c.args.step c.args.words c.args.payload c.in-Ok.request inv c.requires did in let h = k.0 in let ok = i.log.ok.0 in omega arith
+push_reserved-requires g c = let did = answered submit_reply c.in-Ok.is c.submit.ensures ∙ ap (submitted c.self.inside.board c.args.caller c.args.step) c.copy.ensures in
+    let h = (submit_arm c.args.caller c.args.step c.args.words c.args.payload c.in-Ok.request c.self.invariant c.requires did).0.has_room in let ok = c.self.inside.log.ok.0 in omega arith
+
+pub push_reserved-requires-in-Ok : goal.push_reserved-requires-in-Ok
+push_reserved-requires-in-Ok g c = let did = answered submit_reply c.in-Ok.is c.submit.ensures ∙ ap (submitted c.self.inside.board c.args.caller c.args.step) c.copy.ensures in
+    let h = (submit_arm c.args.caller c.args.step c.args.words c.args.payload c.in-Ok.request c.self.invariant c.requires did).1 in let ok = c.self.inside.places.ok.0 in omega arith
 
 pub invariant_of-self : goal.invariant_of-self
-invariant_of-self g c = let i = c.self.inside in let inv = c.self.invariant in let fits = g.P.Sent.fits in let did = ap (λ z. (c.submit.new.self, submit_reply z)) (sym c.in-Ok.is) ∙ c.submit.ensures ∙ ap (submitted i.board c.args.caller c.args.step) c.copy.ensures in let k = submit_kept fits i.board c.submit.new.self i.log.items (vec_capacity i.log) i.places.items (vec_capacity i.places) c.args.caller c.args.step c.args.words c.args.payload c.in-Ok.request inv c.requires did in k.1 _ _ _ _ c.push_reserved.ensures.items c.push_reserved.ensures.capacity c.push_reserved-in-Ok.ensures.items c.push_reserved-in-Ok.ensures.capacity
+invariant_of-self g c = let did = answered submit_reply c.in-Ok.is c.submit.ensures ∙ ap (submitted c.self.inside.board c.args.caller c.args.step) c.copy.ensures in
+    (submit_arm c.args.caller c.args.step c.args.words c.args.payload c.in-Ok.request c.self.invariant c.requires did).0.whole _ _ _ _ c.push_reserved.ensures.items c.push_reserved.ensures.capacity c.push_reserved-in-Ok.ensures.items c.push_reserved-in-Ok.ensures.capacity
 
 pub invariant_of-self-in-Err : goal.invariant_of-self-in-Err
-invariant_of-self-in-Err g c = let i = c.self.inside in let inv = c.self.invariant in let fits = g.P.Sent.fits in let same : c.submit.new.self ≡ i.board = refusal_same i.board c.args.caller c.args.step c.copy.result c.submit.new.self c.in-Err.refused (ap (λ z. (c.submit.new.self, submit_reply z)) (sym c.in-Err.is) ∙ c.submit.ensures) in whole_same fits i.board c.submit.new.self _ _ _ _ inv same
+invariant_of-self-in-Err g c = whole_same _ _ _ _ _ _ _ c.self.invariant (refusal_same c.self.inside.board c.args.caller c.args.step c.copy.result c.submit.new.self c.in-Err.refused (answered submit_reply c.in-Err.is c.submit.ensures))
 
 pub returns-in-Ok-clause-sound : goal.returns-in-Ok-clause-sound
-returns-in-Ok-clause-sound g c = let i = c.self.inside in let inv = c.self.invariant in let fits = g.P.Sent.fits in let did = ap (λ z. (c.submit.new.self, submit_reply z)) (sym c.in-Ok.is) ∙ c.submit.ensures ∙ ap (submitted i.board c.args.caller c.args.step) c.copy.ensures in let k = submit_kept fits i.board c.submit.new.self i.log.items (vec_capacity i.log) i.places.items (vec_capacity i.places) c.args.caller c.args.step c.args.words c.args.payload c.in-Ok.request inv c.requires did in sound fits _ _ _ _ _ (k.1 _ _ _ _ c.push_reserved.ensures.items c.push_reserved.ensures.capacity c.push_reserved-in-Ok.ensures.items c.push_reserved-in-Ok.ensures.capacity)
+returns-in-Ok-clause-sound g c = let did = answered submit_reply c.in-Ok.is c.submit.ensures ∙ ap (submitted c.self.inside.board c.args.caller c.args.step) c.copy.ensures in
+    arm_sound (submit_arm c.args.caller c.args.step c.args.words c.args.payload c.in-Ok.request c.self.invariant c.requires did).0 c.push_reserved.ensures.items
 
-pub returns-in-Ok-clause-ok : goal.returns-in-Ok-clause-ok
-returns-in-Ok-clause-ok g c = let i = c.self.inside in let inv = c.self.invariant in let fits = g.P.Sent.fits in let did = ap (λ z. (c.submit.new.self, submit_reply z)) (sym c.in-Ok.is) ∙ c.submit.ensures ∙ ap (submitted i.board c.args.caller c.args.step) c.copy.ensures in let k = submit_kept fits i.board c.submit.new.self i.log.items (vec_capacity i.log) i.places.items (vec_capacity i.places) c.args.caller c.args.step c.args.words c.args.payload c.in-Ok.request inv c.requires did in (
-  (let v = c.self.view_is in ap (λ n. book n c.push_reserved.new.self.items) k.2 ∙ ap (book i.board.limit) c.push_reserved.ensures.items ∙ ap (λ x. book x.limit (x.entries ++ entry c.args.caller (call.Submit c.args.step c.args.words) (reply.Ticket c.in-Ok.request) ∷ [])) v),
-  subst (λ l. Outstanding (of_caller c.args.caller l) c.in-Ok.request) (sym c.push_reserved.ensures.items) k.3,
-)
+pub returns-in-Ok-clause-grown : goal.returns-in-Ok-clause-grown
+returns-in-Ok-clause-grown g c = let did = answered submit_reply c.in-Ok.is c.submit.ensures ∙ ap (submitted c.self.inside.board c.args.caller c.args.step) c.copy.ensures in
+    grown _ (submit_arm c.args.caller c.args.step c.args.words c.args.payload c.in-Ok.request c.self.invariant c.requires did).0.limit c.push_reserved.ensures.items c.self.view_is
+
+pub returns-in-Ok-clause-own : goal.returns-in-Ok-clause-own
+returns-in-Ok-clause-own g c = submit_own _ c.args.caller c.args.step c.args.words c.in-Ok.request c.push_reserved.ensures.items
+
+pub returns-in-Ok-clause-fresh : goal.returns-in-Ok-clause-fresh
+returns-in-Ok-clause-fresh g c = submit_fresh c.args.caller c.args.step c.copy.result c.in-Ok.request c.self.invariant c.self.view_is (answered submit_reply c.in-Ok.is c.submit.ensures)
 
 pub returns-in-Err-clause-sound : goal.returns-in-Err-clause-sound
-returns-in-Err-clause-sound g c = let i = c.self.inside in let inv = c.self.invariant in let fits = g.P.Sent.fits in let same : c.submit.new.self ≡ i.board = refusal_same i.board c.args.caller c.args.step c.copy.result c.submit.new.self c.in-Err.refused (ap (λ z. (c.submit.new.self, submit_reply z)) (sym c.in-Err.is) ∙ c.submit.ensures) in sound fits _ _ _ _ _ (whole_same fits i.board c.submit.new.self _ _ _ _ inv same)
+returns-in-Err-clause-sound g c = same_sound c.self.invariant (refusal_same c.self.inside.board c.args.caller c.args.step c.copy.result c.submit.new.self c.in-Err.refused (answered submit_reply c.in-Err.is c.submit.ensures))
