@@ -1,21 +1,19 @@
-//! Heads and chunked bodies.
+//! What is read: heads and chunked bodies.
 ghost use Rattle.std.specs.Prelude.{◌≡◌, ◌≤◌, ◌*◌, IfOk, length};
 ghost use Rattle.http_frames.specs.Progress.{phase_after};
 ghost use Rattle.http_frames.specs.declared.Phase.TheVariants.{Going};
 
+use crate::heads::{Way, head_text, read_one};
 use http_frames::{Chunks, Frame, write_chunk};
-use http_heads::rules::framing;
-use http_heads::{Framing, HeadRead, front_of, read_head};
+use http_heads::{Head, front_of};
 use kj_base::{Bytes, NoMemory};
 use std::alloc::Global;
 
 /// What is read.
 #[derive(Clone, Copy, Debug, PartialEq, Eq)]
 pub(crate) enum Work {
-    /// A head of some 50 octets, and its framing.
-    ShortHead,
-    /// A head of some 800 octets, and its framing.
-    LongHead,
+    /// A head.
+    Head { is_long: bool, way: Way },
     /// A body in chunks of so many octets, in pieces of so many.
     Body { chunk: usize, piece: usize },
 }
@@ -28,13 +26,13 @@ pub(crate) struct Done {
     pub items: u64,
 }
 
-const NOTHING: Done = Done {
+pub(crate) const NOTHING: Done = Done {
     octets: 0,
     items: 0,
 };
 
 /// One item that is the whole text.
-fn whole(text: &[u8]) -> Done
+pub(crate) fn whole(text: &[u8]) -> Done
     ensures { result ≡ record { octets = length text.now; items = 1 } }
 {
     Done {
@@ -44,9 +42,77 @@ fn whole(text: &[u8]) -> Done
 }
 
 /// Each work with its word.
-pub(crate) static WORKS: [(&str, Work); 8] = [
-    ("short-heads", Work::ShortHead),
-    ("long-heads", Work::LongHead),
+pub(crate) static WORKS: [(&str, Work); 16] = [
+    (
+        "short-heads-octets",
+        Work::Head {
+            is_long: false,
+            way: Way::Octets,
+        },
+    ),
+    (
+        "short-heads-parts",
+        Work::Head {
+            is_long: false,
+            way: Way::Parts,
+        },
+    ),
+    (
+        "short-heads-copies",
+        Work::Head {
+            is_long: false,
+            way: Way::Copies,
+        },
+    ),
+    (
+        "short-heads-fresh",
+        Work::Head {
+            is_long: false,
+            way: Way::Fresh,
+        },
+    ),
+    (
+        "short-heads-again",
+        Work::Head {
+            is_long: false,
+            way: Way::Again,
+        },
+    ),
+    (
+        "long-heads-octets",
+        Work::Head {
+            is_long: true,
+            way: Way::Octets,
+        },
+    ),
+    (
+        "long-heads-parts",
+        Work::Head {
+            is_long: true,
+            way: Way::Parts,
+        },
+    ),
+    (
+        "long-heads-copies",
+        Work::Head {
+            is_long: true,
+            way: Way::Copies,
+        },
+    ),
+    (
+        "long-heads-fresh",
+        Work::Head {
+            is_long: true,
+            way: Way::Fresh,
+        },
+    ),
+    (
+        "long-heads-again",
+        Work::Head {
+            is_long: true,
+            way: Way::Again,
+        },
+    ),
     ("chunks-1-pieces-1", Work::Body { chunk: 1, piece: 1 }),
     (
         "chunks-100-pieces-1",
@@ -101,42 +167,6 @@ pub(crate) fn named(word: &str) -> Option<Work> {
     None
 }
 
-const SHORT_HEAD: &[u8] = b"GET /a/b HTTP/1.1\r\nHost: example.test\r\nX: 12345\r\n\r\n";
-
-fn long_head(alloc: Global) -> Result<Bytes, NoMemory> {
-    let mut head = Bytes::from_slice(alloc, b"GET /a/b HTTP/1.1\r\nHost: example.test\r\n")?;
-    for _ in 0..19 {
-        head.extend(b"X-Some-Name: a value of some length, 12\r\n")?;
-    }
-    head.extend(b"\r\n")?;
-    Ok(head)
-}
-
-/// The head at the front; no clause, since figures rest on none.
-fn head_at_front(alloc: Global, head: &[u8]) -> Result<HeadRead, NoMemory> {
-    read_head(alloc, head)
-}
-
-/// A head without a body that is the whole text.
-fn is_bodyless(read: &HeadRead, len: usize) -> bool {
-    match read {
-        HeadRead::Whole(head, end) => *end == len && framing(head) == Framing::Empty,
-        HeadRead::More => false,
-        HeadRead::Bad => false,
-    }
-}
-
-fn read_one(alloc: Global, text: &[u8]) -> Result<Done, NoMemory>
-    ensures { IfOk result (λ done. (done.items ≤ 1) × (done.octets ≡ done.items * length text.now)) }
-{
-    let read = head_at_front(alloc, text)?;
-    if is_bodyless(&read, text.len()) {
-        Ok(whole(text))
-    } else {
-        Ok(NOTHING)
-    }
-}
-
 /// A body in chunks, with its last chunk and an empty trailer.
 fn body_text(alloc: Global, chunk: usize, size: usize) -> Result<Bytes, NoMemory> {
     let mut text = Bytes::new(alloc);
@@ -184,19 +214,23 @@ fn read_body(alloc: Global, text: &[u8], piece: usize) -> Result<Done, NoMemory>
 /// What a work reads.
 pub(crate) fn text_of(alloc: Global, work: Work, size: usize) -> Result<Bytes, NoMemory> {
     match work {
-        Work::ShortHead => Bytes::from_slice(alloc, SHORT_HEAD),
-        Work::LongHead => long_head(alloc),
+        Work::Head { is_long, .. } => head_text(alloc, is_long),
         Work::Body { chunk, .. } => body_text(alloc, chunk, size),
     }
 }
 
-/// One round of a work over what it reads: one item that is the whole text, or none.
-pub(crate) fn round(alloc: Global, work: Work, text: &[u8]) -> Result<Done, NoMemory>
+/// One round of a work over what it reads: one item that is the whole text, or none. A head may be
+/// read into the one that is given.
+pub(crate) fn round(
+    alloc: Global,
+    head: &mut Head,
+    work: Work,
+    text: &[u8],
+) -> Result<Done, NoMemory>
     ensures { IfOk result (λ done. (done.items ≤ 1) × (done.octets ≡ done.items * length text.now)) }
 {
     match work {
-        Work::ShortHead => read_one(alloc, text),
-        Work::LongHead => read_one(alloc, text),
+        Work::Head { way, .. } => read_one(alloc, way, head, text),
         Work::Body { piece, .. } => read_body(alloc, text, piece),
     }
 }

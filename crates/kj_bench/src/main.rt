@@ -4,11 +4,13 @@
 #![tactic(auto)]
 
 mod executor;
+mod heads;
 mod http;
 
 use anyhow::{Result, bail, ensure};
 use executor::{RACES, Race, race_named, run_race};
 use http::{SMALL_BODY, WHOLE_BODY, WORKS, Work};
+use http_heads::Head;
 use std::env;
 use std::rt::{Clock, Env};
 use std::sync::Wait;
@@ -16,14 +18,15 @@ use std::thread::{Threads, available_parallelism};
 use std::time::{Duration, Instant};
 
 /// One round of everything.
-fn all<R: AllocGlobal + Wait + Threads + Sync>(rt: &R) -> Result<()> {
+fn all<R: AllocGlobal + Clock + Wait + Threads + Sync>(rt: &R) -> Result<()> {
+    let mut head = Head::new(rt.alloc());
     for (name, work) in WORKS.iter() {
         let text = http::text_of(rt.alloc(), *work, SMALL_BODY)?;
-        let done = http::round(rt.alloc(), *work, text.as_slice())?;
+        let done = http::round(rt.alloc(), &mut head, *work, text.as_slice())?;
         ensure!(done.items == 1, "{name} read nothing");
     }
     for (_, race) in RACES.iter() {
-        run_race(rt, rt.alloc(), *race, 1)?;
+        let _time = run_race(rt, rt.alloc(), *race, 1)?;
     }
     Ok(())
 }
@@ -48,11 +51,12 @@ fn measure(
     count: u64,
 ) -> Result<()> {
     let text = http::text_of(rt.alloc(), work, WHOLE_BODY)?;
+    let mut head = Head::new(rt.alloc());
     let mut octets: u64 = 0;
     let mut items: u64 = 0;
     let start = Instant::now(rt)?;
     for _ in 0..count {
-        let done = http::round(rt.alloc(), work, text.as_slice())?;
+        let done = http::round(rt.alloc(), &mut head, work, text.as_slice())?;
         octets = octets.saturating_add(done.octets);
         items = items.saturating_add(done.items);
     }
@@ -72,9 +76,7 @@ fn measure_race<R: AllocGlobal + Clock + Print + Wait + Threads + Sync>(
     race: Race,
     count: u32,
 ) -> Result<()> {
-    let start = Instant::now(rt)?;
-    run_race(rt, rt.alloc(), race, count)?;
-    let micros = micros_of(start.elapsed(rt)?);
+    let micros = micros_of(run_race(rt, rt.alloc(), race, count)?);
     let requests = u64::from(count).saturating_mul(u64::from(race.threads));
     let request_rate = rate(requests, micros);
     let processors = available_parallelism(rt)?;

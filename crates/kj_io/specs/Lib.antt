@@ -1,4 +1,5 @@
 pub mod Causes
+pub mod Jobs
 pub mod Whole
 pub mod MemSource
 pub mod MemSink

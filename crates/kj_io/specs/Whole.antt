@@ -17,11 +17,14 @@ pub record WroteFront (old new : Option (List ℕ)) (octets : List ℕ) : Type 0
 
 -- each answer of a reading to the end, with its cause
 abbrev pub ReadsWhole : ℕ → Option (List ℕ) → Option (List ℕ) → ℕ → ℕ → Read → Type 0
-ReadsWhole limit old new before now (Whole octets) = Consumes old new octets × IsAtEnd new × (length octets ≤ limit) × (before ≤ now)
-ReadsWhole limit old new before now TooLong = (octets : List ℕ) × Consumes old new octets × (length octets ≡ limit + 1) × (before ≤ now)
+ReadsWhole limit old new before now (Whole octets) =
+    Consumes old new octets × IsAtEnd new × (length octets ≤ limit) × (before ≤ now)
+ReadsWhole limit old new before now TooLong =
+    (octets : List ℕ) × Consumes old new octets × (length octets ≡ limit + 1) × (before ≤ now)
 ReadsWhole limit old new before now Failed = Rose before now
 ReadsWhole limit old new before now NoMemory = before ≤ now
 
 -- octets given at a place of octets in memory
 abbrev pub GivesAt : List ℕ → ℕ → ℕ → ℕ → List ℕ → Type 0
-GivesAt octets at new n buf = (take n buf ≡ take n (drop at octets)) × (new ≡ at + n) × (new ≤ length octets)
+GivesAt octets at new n buf =
+    (take n buf ≡ take n (drop at octets)) × (new ≡ at + n) × (new ≤ length octets)

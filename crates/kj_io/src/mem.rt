@@ -18,7 +18,8 @@ pub enum Turn {
     Fault,
 }
 
-/// Octets that are given in turns, the last turn of the list first; after the list each call gives what fits.
+/// Octets that are given in turns, the last turn of the list first; after the list each call gives
+/// what fits.
 #[derive(Drop)]
 pub struct MemSource {
     octets: Bytes,
@@ -31,6 +32,7 @@ pub struct MemSource {
 impl MemSource {
     ghost use Rattle.kj_io.specs.MemSource.{source_left, source_faults};
 
+    /// A source of these octets, in these turns.
     pub fn new(octets: Bytes, turns: Vec<Turn>) -> MemSource
         ensures left { source_left result ≡ octets }
         ensures faults { source_faults result ≡ 0 }
@@ -43,6 +45,7 @@ impl MemSource {
         }
     }
 
+    // The next octets into the front of the buffer: at most so many, and one where any can pass.
     fn give(&mut self, buf: &mut [u8], most: usize) -> usize
         ensures gives { GivesAt self.old.octets self.old.at self.new.at result buf.new }
         ensures within { result ≤ length buf.new }
@@ -94,6 +97,7 @@ pub struct MemSink {
 impl MemSink {
     ghost use Rattle.kj_io.specs.MemSink.{sink_taken, sink_faults};
 
+    /// A sink that took nothing yet, with these turns.
     pub fn new(alloc: Global, turns: Vec<Turn>) -> MemSink
         ensures taken { sink_taken result ≡ [] }
         ensures faults { sink_faults result ≡ 0 }
@@ -112,6 +116,7 @@ impl MemSink {
         self.octets.as_slice()
     }
 
+    // Takes a front of the piece: at most so many octets, and one where there is one.
     fn take(&mut self, piece: &[u8], most: usize) -> Result<usize, NoMemory>
         ensures bound { IfOk result (λ n. n ≤ length piece.now) }
         ensures some { IfOk result (λ n. 0 < length piece.now → 0 < n) }
@@ -124,6 +129,7 @@ impl MemSink {
         Ok(count)
     }
 
+    // A call that fails, and counts it.
     fn fail(&mut self) -> Result<usize, Failed>
         ensures answer { IsErr result }
         ensures cause { HasCause self.old.faults self.new.faults result }

@@ -42,7 +42,8 @@ const PIECE: usize = 65_536;
 /// Reads to the end, or until one octet more than `limit` has come.
 pub fn read_whole<S: Source>(alloc: Global, source: &mut S, limit: usize) -> Read
     requires { limit < 2 ^ 32 }
-    ensures { ReadsWhole limit (S.left source.old) (S.left source.new) (S.faults source.old) (S.faults source.new) result }
+    ensures { ReadsWhole limit (S.left source.old) (S.left source.new)
+        (S.faults source.old) (S.faults source.new) result }
 {
     let mut octets = Bytes::new(alloc);
     let mut piece = [0u8; PIECE];

@@ -1,8 +1,9 @@
 //! Jobs that threads run, and who may start them.
-ghost use Rattle.std.specs.Prelude.{◌≡◌, ◌≤◌, ◌<◌, ℕ, Some, length, vec_len, IfOk, IfErr, true, false, slice_get};
+ghost use Rattle.std.specs.Prelude.{◌≡◌, ◌≤◌, ◌<◌, ℕ, length, vec_len, IfOk, IfErr, true, false};
 ghost use Rattle.std.specs.List.{All};
 ghost use Rattle.std.specs.Thread.{IsSync, IsSend};
-ghost use Rattle.kj_io.specs.Causes.{Rose};
+ghost use Rattle.kj_io.specs.Causes.{Rose, HasCause};
+ghost use Rattle.kj_io.specs.Jobs.{Each};
 
 use std::sync::Wait;
 use std::thread;
@@ -40,8 +41,8 @@ pub trait Spawner {
         ensures refused { result ≡ false → Rose (faults self.old) (faults self.new) };
 }
 
-/// Runs the jobs, each on a thread of its own where one can be made, and gives them back in order. Where the spawner
-/// refuses, no job's work is called.
+/// Runs the jobs, each on a thread of its own where one can be made, and gives them back in order.
+/// Where the spawner refuses, no job's work is called.
 pub fn run_all<W: Spawner, J: Job, R: Wait + thread::Threads + Sync>(
     rt: &R,
     spawner: &mut W,
@@ -49,9 +50,9 @@ pub fn run_all<W: Spawner, J: Job, R: Wait + thread::Threads + Sync>(
 ) -> Result<Vec<J>, NotStarted<J>>
     requires { All J.ready jobs.items }
     ensures count { IfOk result (λ v. vec_len v ≡ vec_len jobs) }
-    ensures done { IfOk result (λ v. (i : ℕ) (x y : J) → slice_get jobs.items i ≡ Some x → slice_get v.items i ≡ Some y → J.done x y) }
+    ensures done { IfOk result (λ v. Each J.done jobs.items v.items) }
     ensures not_started { IfErr result (λ e. e.jobs.items ≡ jobs.items) }
-    ensures cause { IfErr result (λ _. Rose (W.faults spawner.old) (W.faults spawner.new)) }
+    ensures cause { HasCause (W.faults spawner.old) (W.faults spawner.new) result }
 {
     if !spawner.may_start() {
         return Err(NotStarted { jobs });
@@ -62,10 +63,11 @@ pub fn run_all<W: Spawner, J: Job, R: Wait + thread::Threads + Sync>(
     Ok(jobs)
 }
 
+// Works each job, on threads of their own where these can be made.
 fn work_each<J: Job, R: Wait + thread::Threads + Sync>(rt: &R, jobs: &mut [J])
     requires some { 0 < length jobs.old }
     requires ready { All J.ready jobs.old }
-    ensures { (i : ℕ) (x y : J) → slice_get jobs.old i ≡ Some x → slice_get jobs.new i ≡ Some y → J.done x y }
+    ensures { Each J.done jobs.old jobs.new }
 {
     let count = jobs.len();
     for_each_mut(
@@ -79,6 +81,7 @@ fn work_each<J: Job, R: Wait + thread::Threads + Sync>(rt: &R, jobs: &mut [J])
     );
 }
 
+// One job's work, with its own contract as the thread's.
 fn work_one<J: Job, R: Wait + thread::Threads + Sync>(rt: &R, job: &mut J)
     requires { J.ready job.old }
     ensures { J.done job.old job.new }
@@ -110,6 +113,7 @@ pub struct Refusing {
 }
 
 impl Refusing {
+    /// A spawner that always refuses, or never.
     pub fn new(refuses: bool) -> Refusing
         ensures { result ≡ record { refuses = refuses; faults = 0 } }
     {

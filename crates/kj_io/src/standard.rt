@@ -1,4 +1,5 @@
-//! Sources and sinks over the system's readers and writers: the trusted edge, which tells no octets.
+//! Sources and sinks over the system's readers and writers: the trusted edge, which tells no
+//! octets.
 ghost use Rattle.std.specs.Prelude.{None};
 
 use crate::fault::Failed;
@@ -17,6 +18,7 @@ impl<R: io::Read + Drop> StdSource<R> {
     ghost use Rattle.std.specs.Prelude.{◌≡◌};
     ghost use Rattle.kj_io.specs.Standard.{source_faults};
 
+    /// Reads from this reader.
     pub fn new(reader: R) -> StdSource<R>
         ensures { source_faults result ≡ 0 }
     {
@@ -44,7 +46,8 @@ impl<R: io::Read + Drop> Source for StdSource<R> {
     }
 }
 
-/// A writer of the system with a count of faults. It keeps no octets back: a flush that fails is a fault.
+/// A writer of the system with a count of faults. It keeps no octets back: a flush that fails is a
+/// fault.
 #[derive(Drop)]
 pub struct StdSink<W> {
     writer: W,
@@ -56,12 +59,14 @@ impl<W: io::Write + Drop> StdSink<W> {
     ghost use Rattle.kj_io.specs.Causes.{HasCause};
     ghost use Rattle.kj_io.specs.Standard.{sink_faults};
 
+    /// Writes to this writer.
     pub fn new(writer: W) -> StdSink<W>
         ensures { sink_faults result ≡ 0 }
     {
         StdSink { writer, faults: 0 }
     }
 
+    // Writes a front of the piece, and flushes.
     fn pass(&mut self, piece: &[u8]) -> io::Result<usize>
         ensures bound { IfOk result (λ n. n ≤ length piece.now) }
         ensures faults { self.new.faults ≡ self.old.faults }
@@ -71,6 +76,7 @@ impl<W: io::Write + Drop> StdSink<W> {
         Ok(count)
     }
 
+    // A write that failed, which is counted.
     fn fail(&mut self) -> Result<usize, Failed>
         ensures answer { IsErr result }
         ensures cause { HasCause self.old.faults self.new.faults result }

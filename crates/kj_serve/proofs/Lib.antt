@@ -3,3 +3,4 @@ pub mod OneForm
 pub mod Listed
 pub mod BadRecord
 pub mod RepliesLemmas
+pub mod OutputLemmas

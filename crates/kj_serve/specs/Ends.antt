@@ -11,4 +11,5 @@ use Rattle.kj_serve.specs.Replay.{ReplayEnds, answers_of}
 abbrev pub Ends : Form → ℕ → Outside → Outside → Type 0
 Ends Run status before after = RunEnds status before after
 Ends (Replay service) status before after = ReplayEnds (answers_of service) status before after
-Ends (Make number conns requests) status before after = MakeEnds number conns requests status before after
+Ends (Make number conns requests) status before after =
+    MakeEnds number conns requests status before after

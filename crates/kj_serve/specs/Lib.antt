@@ -1,5 +1,6 @@
 pub mod Ends
 pub mod Make
+pub mod Outputs
 pub mod Outside
 pub mod Replay
 pub mod Run

@@ -3,13 +3,21 @@ use Rattle.std.specs.Prelude.{◌≡◌, ℕ, ◌≤◌, List, length, Option}
 use Rattle.std.specs.Io.KnownBytes.{Appends, Consumes, IsAtEnd}
 use Rattle.kj_io.specs.Causes.{Rose}
 use Rattle.kj_io.specs.Whole.{WroteFront}
+use Rattle.kj_base.specs.declared.limits.TheConstants.{INPUT_LIMIT}
 
--- the octets left of an input and those taken by an output, where they tell, and their counts of faults
+-- the octets left of an input and those taken by an output, where they tell, and their counts of
+-- faults
 pub record Outside : Type 0 where
   pub left : Option (List ℕ)
   pub reads : ℕ
   pub taken : Option (List ℕ)
   pub writes : ℕ
+
+-- the outside that an input and an output are, by what they tell
+abbrev pub outside_of : {I O : Type 0} → (I → Option (List ℕ)) → (I → ℕ)
+    → (O → Option (List ℕ)) → (O → ℕ) → I → O → Outside
+outside_of left reads taken writes input output =
+    record { left = left input; reads = reads input; taken = taken output; writes = writes output }
 
 -- no read and no write failed
 pub record NoFault (before after : Outside) : Type 0 where
@@ -28,8 +36,8 @@ WroteFrontOf before after text = WroteFront before.taken after.taken text
 abbrev pub WroteNothing : Outside → Outside → Type 0
 WroteNothing before after = after.taken ≡ before.taken
 
--- an input of at most 16,777,216 octets was read to its end
+-- an input within the limit was read to its end
 pub record ReadWhole (before after : Outside) (input : List ℕ) : Type 0 where
   pub read : Consumes before.left after.left input
   pub at_end : IsAtEnd after.left
-  pub short : length input ≤ 16777216
+  pub short : length input ≤ INPUT_LIMIT

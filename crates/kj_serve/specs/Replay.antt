@@ -1,5 +1,5 @@
 -- What the command `replay` does.
-use Rattle.std.specs.Prelude.{◌≡◌, ◌⊎◌, ℕ, ◌<◌, ◌≤◌, ◌++◌, List, [], ◌∷◌, length, Option, None, Some, codes, decimal}
+use Rattle.std.specs.Prelude.{◌≡◌, ◌⊎◌, ℕ, ◌+◌, ◌<◌, ◌≤◌, ◌++◌, List, [], ◌∷◌, length, Option, None, Some, codes, decimal}
 use Rattle.std.specs.Io.KnownBytes.{Consumes}
 use Rattle.kj_io.specs.Causes.{Rose}
 use Rattle.conn_record.specs.Records.{IsRecording, IsNoRecording, IsWholeUpTo, reply_text}
@@ -11,6 +11,7 @@ use Rattle.http_core.specs.Replies.{IsReplies}
 use Rattle.http_core.specs.Services.{echo_of, target_of}
 use Rattle.kj_serve.specs.declared.replay.ServiceName.{ServiceName}
 use Rattle.kj_serve.specs.declared.replay.ServiceName.TheVariants.{Echo, Target}
+use Rattle.kj_base.specs.declared.limits.TheConstants.{INPUT_LIMIT}
 use Rattle.kj_serve.specs.Outside.{Outside, NoFault, Wrote, WroteFrontOf, WroteNothing, ReadWhole}
 
 -- what a service answers
@@ -65,17 +66,30 @@ ReplayPart f before after =
     ((output : List ℕ) × Replayed f before after output × WroteFrontOf before after output)
     ⊎ ((whole : ℕ) × ReadBad before after whole × WroteFrontOf before after (bad_record whole))
 
+-- one octet more than the limit was read
+abbrev pub ReadPast : Outside → Outside → Type 0
+ReadPast before after =
+    (input : List ℕ) × Consumes before.left after.left input × (length input ≡ INPUT_LIMIT + 1)
+
 -- the command ended with this status
 pub record ReplayEnds (f : Request → Answer) (status : ℕ) (before after : Outside) : Type 0 where
-  pub done : status ≡ 0 → (output : List ℕ) × Replayed f before after output × Wrote before after output
-  pub bad : status ≡ 1 → (whole : ℕ) × ReadBad before after whole × Wrote before after (bad_record whole)
+  pub done : status ≡ 0
+      → (output : List ℕ) × Replayed f before after output × Wrote before after output
+  pub bad : status ≡ 1
+      → (whole : ℕ) × ReadBad before after whole × Wrote before after (bad_record whole)
   pub read_failed : status ≡ 3 → Rose before.reads after.reads × WroteNothing before after
   pub write_failed : status ≡ 4 → Rose before.writes after.writes × ReplayPart f before after
   pub no_memory : status ≡ 5 → WroteNothing before after
-  -- exactly 16,777,217 octets were read
-  pub too_long : status ≡ 6 → ((input : List ℕ) × Consumes before.left after.left input × (length input ≡ 16777217)) × WroteNothing before after
-  pub statuses : (status ≡ 0) ⊎ (status ≡ 1) ⊎ (status ≡ 3) ⊎ (status ≡ 4) ⊎ (status ≡ 5) ⊎ (status ≡ 6)
-  -- where the octets are known and nothing failed, a recording is replayed, and anything else is refused, unless memory runs out
-  pub replays : (input : List ℕ) → before.left ≡ Some input → NoFault before after → (conns : List (List ℕ)) → IsRecording input conns → length input ≤ 16777216 → (status ≡ 0) ⊎ (status ≡ 5)
-  pub refuses : (input : List ℕ) → before.left ≡ Some input → NoFault before after → IsNoRecording input → length input ≤ 16777216 → (status ≡ 1) ⊎ (status ≡ 5)
-  pub refuses_long : (input : List ℕ) → before.left ≡ Some input → NoFault before after → 16777216 < length input → (status ≡ 6) ⊎ (status ≡ 5)
+  -- exactly one octet more than the limit was read
+  pub too_long : status ≡ 6 → ReadPast before after × WroteNothing before after
+  pub statuses :
+      (status ≡ 0) ⊎ (status ≡ 1) ⊎ (status ≡ 3) ⊎ (status ≡ 4) ⊎ (status ≡ 5) ⊎ (status ≡ 6)
+  -- where the octets are known and nothing failed, a recording is replayed, and anything else is
+  -- refused, unless memory runs out
+  pub replays : (input : List ℕ) → before.left ≡ Some input → NoFault before after
+      → (conns : List (List ℕ)) → IsRecording input conns → length input ≤ INPUT_LIMIT
+      → (status ≡ 0) ⊎ (status ≡ 5)
+  pub refuses : (input : List ℕ) → before.left ≡ Some input → NoFault before after
+      → IsNoRecording input → length input ≤ INPUT_LIMIT → (status ≡ 1) ⊎ (status ≡ 5)
+  pub refuses_long : (input : List ℕ) → before.left ≡ Some input → NoFault before after
+      → INPUT_LIMIT < length input → (status ≡ 6) ⊎ (status ≡ 5)

@@ -8,6 +8,7 @@ use Rattle.kj_model.specs.Log.{log_of}
 use Rattle.kj_model.specs.Places.{table_fits}
 use Rattle.kj_model.specs.Text.{log_text}
 use Rattle.kj_script.specs.ScriptText.{IsScriptText}
+use Rattle.kj_base.specs.declared.limits.TheConstants.{INPUT_LIMIT}
 use Rattle.kj_serve.specs.Outside.{Outside, NoFault, ReadWhole, Wrote, WroteFrontOf, WroteNothing}
 
 -- the input is the text of a script, and the output is the log of that script
@@ -32,16 +33,17 @@ pub record Ran (before after : Outside) : Type 0 where
   pub runs : RunsTo input output
   pub wrote : Wrote before after output
 
--- what was read is longer than 16,777,216 octets, or was read to its end and is no script
+-- what was read is longer than the limit, or was read to its end and is no script
 abbrev pub IsRefused : Outside → Outside → Type 0
 IsRefused before after =
-    ((input : List ℕ) × Consumes before.left after.left input × (16777216 < length input))
+    ((input : List ℕ) × Consumes before.left after.left input × (INPUT_LIMIT < length input))
     ⊎ ((input : List ℕ) × ReadWhole before after input × IsNoScript input)
 
 -- a front of the log of the script that was read, or of the line of a refusal, was written
 abbrev pub WrotePart : Outside → Outside → Type 0
 WrotePart before after =
-    ((input output : List ℕ) × ReadWhole before after input × RunsTo input output × WroteFrontOf before after output)
+    ((input output : List ℕ) × ReadWhole before after input × RunsTo input output
+    × WroteFrontOf before after output)
     ⊎ (IsRefused before after × WroteFrontOf before after refusal)
 
 -- the command ended with this status
@@ -52,7 +54,12 @@ pub record RunEnds (status : ℕ) (before after : Outside) : Type 0 where
   pub no_memory : status ≡ 5 → WroteNothing before after
   pub not_built : status ≡ 9 → IsRefused before after × Wrote before after refusal
   pub statuses : (status ≡ 0) ⊎ (status ≡ 3) ⊎ (status ≡ 4) ⊎ (status ≡ 5) ⊎ (status ≡ 9)
-  -- where the octets are known and nothing failed, a script runs, and anything else is refused, unless memory runs out
-  pub runs : (input : List ℕ) → before.left ≡ Some input → NoFault before after → (script : Script) → IsScriptText input script → length input ≤ 16777216 → (status ≡ 0) ⊎ (status ≡ 5)
-  pub refuses : (input : List ℕ) → before.left ≡ Some input → NoFault before after → IsNoScript input → (status ≡ 9) ⊎ (status ≡ 5)
-  pub too_long : (input : List ℕ) → before.left ≡ Some input → NoFault before after → 16777216 < length input → (status ≡ 9) ⊎ (status ≡ 5)
+  -- where the octets are known and nothing failed, a script runs, and anything else is refused,
+  -- unless memory runs out
+  pub runs : (input : List ℕ) → before.left ≡ Some input → NoFault before after
+      → (script : Script) → IsScriptText input script → length input ≤ INPUT_LIMIT
+      → (status ≡ 0) ⊎ (status ≡ 5)
+  pub refuses : (input : List ℕ) → before.left ≡ Some input → NoFault before after
+      → IsNoScript input → (status ≡ 9) ⊎ (status ≡ 5)
+  pub too_long : (input : List ℕ) → before.left ≡ Some input → NoFault before after
+      → INPUT_LIMIT < length input → (status ≡ 9) ⊎ (status ≡ 5)

@@ -1,8 +1,9 @@
 //! The top call: it judges the words, and does what they say.
 ghost use Rattle.std.specs.Prelude.{◌≡◌};
 ghost use Rattle.kj_serve.specs.declared.forms.Form.{Form};
-ghost use Rattle.kj_serve.specs.Words.{IsForm};
+ghost use Rattle.kj_serve.specs.Words.{IsForm, IsNoForm};
 ghost use Rattle.kj_serve.specs.Ends.{Ends};
+ghost use Rattle.kj_serve.specs.Outside.{outside_of};
 
 use crate::forms::{Form, form_of};
 use crate::make::make_command;
@@ -24,12 +25,18 @@ pub fn kj_main<R: Wait + Threads + Sync, I: Source, O: Sink, W: Spawner>(
     spawner: &mut W,
 ) -> u8
     // Words of a form: what it promises of each status, of the input and of the output.
-    ensures form { (form : Form) → IsForm words.now form → Ends form result (record { left = I.left input.old; reads = I.faults input.old; taken = O.taken output.old; writes = O.faults output.old }) (record { left = I.left input.new; reads = I.faults input.new; taken = O.taken output.new; writes = O.faults output.new }) }
+    ensures form { (form : Form) → IsForm words.now form
+        → Ends form result
+        (outside_of I.left I.faults O.taken O.faults input.old output.old)
+        (outside_of I.left I.faults O.taken O.faults input.new output.new) }
 
     // Other words: status 2, and nothing is read or written.
-    ensures other_words { ((form : Form) → IsForm words.now form → ⊥) → result ≡ 2 }
-    ensures two { result ≡ 2 → (form : Form) → IsForm words.now form → ⊥ }
+    ensures other_words { IsNoForm words.now → result ≡ 2 }
+    ensures two { result ≡ 2 → IsNoForm words.now }
     ensures untouched { result ≡ 2 → (input.new ≡ input.old) × (output.new ≡ output.old) }
+
+    // No form has jobs so far.
+    ensures no_jobs { spawner.new ≡ spawner.old }
 {
     match form_of(words) {
         Some(Form::Run) => run_command(alloc, input, output),

@@ -1,10 +1,16 @@
 //! The forms of the program's words.
 ghost use Rattle.std.specs.Prelude.{◌≡◌, ◌+◌, ◌<◌, ◌↔◌, [], ◌∷◌, IsTrue, IfSome, IfNone};
-ghost use Rattle.kj_serve.specs.declared.forms.Form.{Form};
-ghost use Rattle.kj_serve.specs.Words.{IsForm, IsFormOf};
+ghost use Rattle.kj_serve.specs.Words.{IsForm, IsFormOf, IsNoForm, IsNoFormOf};
 
 use crate::replay::ServiceName;
+use conn_record::MAX_CONNS;
 use kj_base::{is_word, read_decimal};
+
+/// The most requests that it makes for each of them.
+pub const MAX_REQUESTS: u64 = 1_000;
+
+/// The most requests that it makes for all of them together.
+pub const MAX_REQUESTS_IN_ALL: u64 = 100_000;
 
 /// What the program is to do.
 #[derive(Clone, Copy, Debug, PartialEq, Eq)]
@@ -26,7 +32,7 @@ pub enum Form {
 /// The form that the words are, where they are one.
 pub fn form_of(words: &[String]) -> Option<Form>
     ensures found { IfSome result (IsForm words.now) }
-    ensures none { IfNone result ((form : Form) → IsForm words.now form → ⊥) }
+    ensures none { IfNone result (IsNoForm words.now) }
 {
     match words {
         [] => None,
@@ -47,9 +53,10 @@ pub fn form_of(words: &[String]) -> Option<Form>
     }
 }
 
+// The form that one word is.
 fn one_word(word: &[u8]) -> Option<Form>
     ensures found { IfSome result (IsFormOf (word.now ∷ [])) }
-    ensures none { IfNone result ((form : Form) → IsFormOf (word.now ∷ []) form → ⊥) }
+    ensures none { IfNone result (IsNoFormOf (word.now ∷ [])) }
 {
     if is_word(word, b"run") {
         return Some(Form::Run);
@@ -57,9 +64,10 @@ fn one_word(word: &[u8]) -> Option<Form>
     None
 }
 
+// The form that three words are.
 fn three_words(word: &[u8], loops: &[u8], service: &[u8]) -> Option<Form>
     ensures found { IfSome result (IsFormOf (word.now ∷ loops.now ∷ service.now ∷ [])) }
-    ensures none { IfNone result ((form : Form) → IsFormOf (word.now ∷ loops.now ∷ service.now ∷ []) form → ⊥) }
+    ensures none { IfNone result (IsNoFormOf (word.now ∷ loops.now ∷ service.now ∷ [])) }
 {
     if !is_word(word, b"replay") {
         return None;
@@ -78,9 +86,10 @@ fn three_words(word: &[u8], loops: &[u8], service: &[u8]) -> Option<Form>
     None
 }
 
+// The form that four words are.
 fn four_words(word: &[u8], number: &[u8], conns: &[u8], requests: &[u8]) -> Option<Form>
     ensures found { IfSome result (IsFormOf (word.now ∷ number.now ∷ conns.now ∷ requests.now ∷ [])) }
-    ensures none { IfNone result ((form : Form) → IsFormOf (word.now ∷ number.now ∷ conns.now ∷ requests.now ∷ []) form → ⊥) }
+    ensures none { IfNone result (IsNoFormOf (word.now ∷ number.now ∷ conns.now ∷ requests.now ∷ [])) }
 {
     if !is_word(word, b"make") {
         return None;
@@ -88,13 +97,13 @@ fn four_words(word: &[u8], number: &[u8], conns: &[u8], requests: &[u8]) -> Opti
     let number = read_decimal(number)?;
     let conns = read_decimal(conns)?;
     let requests = read_decimal(requests)?;
-    if !is_within(conns, 4096) {
+    if !is_within(conns, MAX_CONNS as u64) {
         return None;
     }
-    if !is_within(requests, 1000) {
+    if !is_within(requests, MAX_REQUESTS) {
         return None;
     }
-    if conns * requests > 100_000 {
+    if conns * requests > MAX_REQUESTS_IN_ALL {
         return None;
     }
     Some(Form::Make {
@@ -104,7 +113,7 @@ fn four_words(word: &[u8], number: &[u8], conns: &[u8], requests: &[u8]) -> Opti
     })
 }
 
-/// Whether a number is at least 1 and at most this.
+// Whether a number is at least 1 and at most this.
 fn is_within(n: u64, most: u64) -> bool
     ensures { IsTrue result ↔ (0 < n) × (n < most + 1) }
 {

@@ -3,6 +3,7 @@
 
 mod command;
 mod forms;
+mod laws;
 mod make;
 mod output;
 mod replay;
@@ -19,8 +20,9 @@ use std::{env, io};
 fn main(rt: HostRuntime) -> ExitCode {
     let alloc = rt.alloc();
     let mut words = Vec::new(alloc);
-    let Ok(args) = env::args(&rt) else {
-        return ExitCode::from(status::NO_MEMORY);
+    let args = match env::args(&rt) {
+        Ok(args) => args,
+        Err(error) => return ExitCode::from(status::of_unread_words(error.kind())),
     };
     for word in args.skip(1) {
         if words.push(word).is_err() {

@@ -4,21 +4,19 @@ ghost use Rattle.std.specs.Io.KnownBytes.{Appends};
 ghost use Rattle.kj_io.specs.Causes.{Rose};
 ghost use Rattle.kj_io.specs.Whole.{WroteFront};
 ghost use Rattle.http_core.specs.Replies.{IsReplies};
+ghost use Rattle.kj_serve.specs.Outside.{outside_of};
 ghost use Rattle.kj_serve.specs.Replay.{ReplayEnds, IsReplyText, whole_in, answers_of, bad_record};
 
 use crate::output::finish;
-use crate::status::{BAD_INPUT, NO_MEMORY, READ_FAILED, TOO_LONG, WRITE_FAILED};
+use crate::status::{BAD_INPUT, DONE, NO_MEMORY, READ_FAILED, TOO_LONG};
 use conn_record::{RecordRefused, Replies, print_replies, read_records};
 use http_core::{Connection, Echo, Service, Target};
 use itoa::Buffer;
-use kj_base::{Bytes, NoMemory};
-use kj_io::{Failed, Read, Sink, Source, Spawner, read_whole, write_all};
+use kj_base::{Bytes, INPUT_LIMIT, NoMemory};
+use kj_io::{Read, Sink, Source, Spawner, read_whole};
 use std::alloc::Global;
 use std::sync::Wait;
 use std::thread::Threads;
-
-/// The most octets that an input may have.
-const LIMIT: usize = 16_777_216;
 
 /// The services of the program.
 #[derive(Clone, Copy, Debug, PartialEq, Eq)]
@@ -29,8 +27,8 @@ pub enum ServiceName {
     Target,
 }
 
-/// Reads a recording and writes the replies to each of its connections, in order; gives the status. So far it serves
-/// on no loop and writes no trace.
+/// Reads a recording and writes the replies to each of its connections, in order; gives the status.
+/// So far it serves on no loop and writes no trace: what is given for these isn't used yet.
 pub fn replay_command<R: Wait + Threads + Sync, I: Source, O: Sink, W: Spawner>(
     _rt: &R,
     alloc: Global,
@@ -43,9 +41,12 @@ pub fn replay_command<R: Wait + Threads + Sync, I: Source, O: Sink, W: Spawner>(
 ) -> u8
     requires one_loop { _loops ≡ 1 }
     requires no_trace { _trace ≡ false }
-    ensures { ReplayEnds (answers_of service) result (record { left = I.left input.old; reads = I.faults input.old; taken = O.taken output.old; writes = O.faults output.old }) (record { left = I.left input.new; reads = I.faults input.new; taken = O.taken output.new; writes = O.faults output.new }) }
+    ensures ends { ReplayEnds (answers_of service) result
+        (outside_of I.left I.faults O.taken O.faults input.old output.old)
+        (outside_of I.left I.faults O.taken O.faults input.new output.new) }
+    ensures no_jobs { _spawner.new ≡ _spawner.old }
 {
-    let octets = match read_whole(alloc, input, LIMIT) {
+    let octets = match read_whole(alloc, input, INPUT_LIMIT) {
         Read::Whole(octets) => octets,
         Read::TooLong => return TOO_LONG,
         Read::Failed => return READ_FAILED,
@@ -61,12 +62,12 @@ pub fn replay_command<R: Wait + Threads + Sync, I: Source, O: Sink, W: Spawner>(
         }
     };
     match replies_of(alloc, service, records.as_slice()) {
-        Ok(text) => finish(output, text.as_slice()),
+        Ok(text) => finish(output, text.as_slice(), DONE),
         Err(NoMemory) => NO_MEMORY,
     }
 }
 
-/// How many connections of a bad recording are whole.
+// How many connections of a bad recording are whole.
 fn whole_in(refused: RecordRefused) -> Option<u32>
     ensures { result ≡ whole_in refused }
 {
@@ -76,7 +77,7 @@ fn whole_in(refused: RecordRefused) -> Option<u32>
     }
 }
 
-/// The text of the replies to these connections.
+// The text of the replies to these connections.
 fn replies_of(alloc: Global, service: ServiceName, records: &[Bytes]) -> Result<Bytes, NoMemory>
     ensures { IfOk result (IsReplyText (answers_of service) records.now) }
 {
@@ -86,6 +87,7 @@ fn replies_of(alloc: Global, service: ServiceName, records: &[Bytes]) -> Result<
     }
 }
 
+// The same, by one service for all of them.
 fn serve_all<S: Service + Drop>(
     alloc: Global,
     mut service: S,
@@ -102,7 +104,7 @@ fn serve_all<S: Service + Drop>(
     print_replies(alloc, &replies)
 }
 
-/// What is written to a connection that sends these octets, and the service again.
+// What is written to a connection that sends these octets, and the service again.
 fn serve<S: Service + Drop>(
     alloc: Global,
     service: S,
@@ -117,22 +119,21 @@ fn serve<S: Service + Drop>(
     Ok((written, connection.service()))
 }
 
-/// Writes how many connections of a bad recording are whole.
+// Writes how many connections of a bad recording are whole.
 fn refuse<O: Sink>(alloc: Global, whole: u32, output: &mut O) -> u8
     ensures bad { result ≡ 1 → Appends (O.taken output.old) (O.taken output.new) (bad_record whole) }
-    ensures write_failed { result ≡ 4 → Rose (O.faults output.old) (O.faults output.new) × WroteFront (O.taken output.old) (O.taken output.new) (bad_record whole) }
+    ensures cause { result ≡ 4 → Rose (O.faults output.old) (O.faults output.new) }
+    ensures front { result ≡ 4 → WroteFront (O.taken output.old) (O.taken output.new) (bad_record whole) }
     ensures no_memory { result ≡ 5 → O.taken output.new ≡ O.taken output.old }
     ensures statuses { (result ≡ 1) ⊎ (result ≡ 4) ⊎ (result ≡ 5) }
 {
     let Ok(line) = bad_line(alloc, whole) else {
         return NO_MEMORY;
     };
-    match write_all(output, line.as_slice()) {
-        Ok(()) => BAD_INPUT,
-        Err(Failed) => WRITE_FAILED,
-    }
+    finish(output, line.as_slice(), BAD_INPUT)
 }
 
+// The line that is written then.
 fn bad_line(alloc: Global, whole: u32) -> Result<Bytes, NoMemory>
     ensures { IfOk result (λ line. line ≡ bad_record whole) }
 {

@@ -13,6 +13,6 @@ returns-then-not-is_within-2-clause-none c form is =
     let within = requests_within _ _ _ _ form c.in_ok-requests.requests is c.in_ok-requests.ensures.found (search rules) in
     absurd (cc (c.if-not-is_within-2.ensures.1 (within.0, omega (arith, within.1))))
 
-pub returns-then-conns-requests-gt100000-clause-none : goal.returns-then-conns-requests-gt100000-clause-none
-returns-then-conns-requests-gt100000-clause-none c form is =
-    omega (arith, all_within _ _ _ _ form c.in_ok-conns.conns c.in_ok-requests.requests is c.in_ok-conns.ensures.found (search rules) c.in_ok-requests.ensures.found (search rules), c.if-conns-requests-gt100000.true)
+pub returns-then-conns-requests-gt-MAX_REQUESTS_IN_ALL-clause-none : goal.returns-then-conns-requests-gt-MAX_REQUESTS_IN_ALL-clause-none
+returns-then-conns-requests-gt-MAX_REQUESTS_IN_ALL-clause-none c form is =
+    omega (arith, all_within _ _ _ _ form c.in_ok-conns.conns c.in_ok-requests.requests is c.in_ok-conns.ensures.found (search rules) c.in_ok-requests.ensures.found (search rules), c.if-conns-requests-gt-MAX_REQUESTS_IN_ALL.true)

@@ -1,0 +1,143 @@
+//! Scripts that were worked out by hand, and their logs.
+use crate::tests::{Ended, ran};
+use kj_base::Bytes;
+use kj_io::Turn;
+use std::alloc::Global;
+use std::process::Abort;
+use std::sync::Wait;
+use std::test::Fail;
+use std::thread::Threads;
+
+// Two promises with a continuation each, both detached, and two turns.
+pub const TWO: &[u8] =
+    b"later 1\nthen 2 1 10 -\ndetach 2\nlater 3\nthen 4 3 11 -\ndetach 4\nturn\nturn\n";
+
+pub const TWO_LOG: &[u8] =
+    b"free 1\nrun 2 10 value\nfree 2\nfree 3\nfree 4\nrun 5 11 value\nfree 5\nfree 6\n";
+
+const REFUSAL: &[u8] = b"not built\n";
+
+// Octets, the status of `run` on them, and what it writes.
+const SCRIPTS: [(&[u8], u8, &[u8]); 24] = [
+    (b"", 0, b""),
+    (
+        b"later 1\nthen 2 1 10 -\ndetach 2\nturn\n",
+        0,
+        b"free 1\nrun 2 10 value\nfree 2\nfree 3\n",
+    ),
+    (TWO, 0, TWO_LOG),
+    (
+        b"later 1\nlater 1\nthen 3 2 - -\nturn\n",
+        0,
+        b"refused 2 taken 1\nrefused 3 unknown 2\nidle\nfree 1\n",
+    ),
+    (b"pair 1 2", 9, REFUSAL),
+    // The last line may end with the input.
+    (b"later 1\nturn", 0, b"idle\nfree 1\n"),
+    // Lines that mean nothing are counted.
+    (
+        b"\n# any octet \xff\x00\r in a remark\n\ndetach 1\n",
+        0,
+        b"refused 4 unknown 1\n",
+    ),
+    // A continuation without a step for its outcome passes it on.
+    (
+        b"later 1\nthen 2 1 - 5\nthen 3 2 6 -\ndetach 3\nturn\n",
+        0,
+        b"free 1\nfree 2\nrun 3 6 value\nfree 3\nfree 4\n",
+    ),
+    // A name is free again once it was a source.
+    (
+        b"later 1\nthen 2 1 - -\nlater 1\ndetach 2\ndetach 1\nturn\nturn\nturn\n",
+        0,
+        b"free 1\nfree 2\nfree 4\nfree 3\nfree 5\nidle\n",
+    ),
+    // What is still there at the end is freed: names by rising name, then tasks, the newest first.
+    (
+        b"later 9\nlater 4\nlater 1\nlater 2\ndetach 1\ndetach 2\n",
+        0,
+        b"free 2\nfree 1\nfree 4\nfree 6\nfree 3\nfree 5\n",
+    ),
+    (b"then 1 1 - -\n", 0, b"refused 1 unknown 1\n"),
+    (
+        b"later 4294967295\ndetach 4294967295\n",
+        0,
+        b"free 1\nfree 2\n",
+    ),
+    (b"later 4294967296\n", 9, REFUSAL),
+    (b"later 01\n", 9, REFUSAL),
+    (b"later -1\n", 9, REFUSAL),
+    (b"later +1\n", 9, REFUSAL),
+    (b"later  1\n", 9, REFUSAL),
+    (b"later 1 \n", 9, REFUSAL),
+    (b" later 1\n", 9, REFUSAL),
+    (b"later 1\r\n", 9, REFUSAL),
+    (b"later\n", 9, REFUSAL),
+    (b"then 2 1 10\n", 9, REFUSAL),
+    (b"turn 1\n", 9, REFUSAL),
+    (b"Turn\n", 9, REFUSAL),
+];
+
+#[test]
+fn scripts_and_their_logs(rt: HostRuntime) -> Result<(), Fail> {
+    let alloc = rt.alloc();
+    for (octets, status, text) in SCRIPTS {
+        let ended = ran(&rt, alloc, octets, Vec::new(alloc), Vec::new(alloc))?;
+        assert!(&rt; ended.is(status, text), "at {}", octets.len());
+    }
+    Ok(())
+}
+
+// The log of the two continuations, with the input cut in two at each place and the output cut
+// everywhere.
+#[test]
+fn cut_input(rt: HostRuntime) -> Result<(), Fail> {
+    let alloc = rt.alloc();
+    for place in 1..TWO.len() {
+        let mut reads = Vec::new(alloc);
+        reads.push(Turn::Octets(place))?;
+        let ended = ran(&rt, alloc, TWO, reads, Vec::new(alloc))?;
+        assert!(&rt; ended.is(0, TWO_LOG), "at {place}");
+    }
+    let mut single = Vec::new(alloc);
+    for _ in 0..200 {
+        single.push(Turn::Octets(1))?;
+    }
+    let ended = ran(&rt, alloc, TWO, Vec::new(alloc), single)?;
+    assert!(&rt; ended.is(0, TWO_LOG));
+    Ok(())
+}
+
+// What a script logs, where the program ends with 0.
+fn log_of<R: Abort + Wait + Threads + Sync>(
+    rt: &R,
+    alloc: Global,
+    octets: &[u8],
+) -> Result<Ended, Fail> {
+    let ended = ran(rt, alloc, octets, Vec::new(alloc), Vec::new(alloc))?;
+    assert_eq!(rt; ended.status, 0);
+    Ok(ended)
+}
+
+// The 4,097th name is refused, and none before; likewise the 65,537th node.
+#[test]
+fn full(rt: HostRuntime) -> Result<(), Fail> {
+    let alloc = rt.alloc();
+    let mut names = Bytes::new(alloc);
+    for n in 1..4098 {
+        names.extend(format!(in alloc; "later {n}\n")?.as_bytes())?;
+    }
+    let log = log_of(&rt, alloc, names.as_slice())?;
+    let front = b"refused 4097 full\nfree 1\nfree 2\n".as_slice();
+    assert!(&rt; log.written.as_slice().starts_with(front));
+    // Each of these makes two nodes: the leaf and the task over it.
+    let mut nodes = Bytes::new(alloc);
+    for _ in 0..32_768 {
+        nodes.extend(b"later 1\ndetach 1\n")?;
+    }
+    nodes.extend(b"later 1\nlater 2\n")?;
+    let log = log_of(&rt, alloc, nodes.as_slice())?;
+    let front = b"refused 65537 full\nrefused 65538 full\nfree 65535\nfree 65536\nfree 65533\n";
+    assert!(&rt; log.written.as_slice().starts_with(front.as_slice()));
+    Ok(())
+}
