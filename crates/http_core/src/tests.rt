@@ -37,6 +37,31 @@ fn cut(octets: &[u8], at: usize) -> (&[u8], &[u8]) {
     octets.split_at(at.min(octets.len()))
 }
 
+// Only the functions that make a connection drop one, so few ways out of a function drop any.
+
+fn keep_output<S: Service>(
+    connection: &mut Connection<S>,
+    output: &mut Bytes,
+) -> Result<(), NoMemory> {
+    let ready = take_output(connection);
+    output.extend(ready.as_slice())
+}
+
+/// Feeds octets in two pieces, cut there, and ends; the output is taken behind each piece.
+fn feed_cut<S: Service>(
+    connection: &mut Connection<S>,
+    octets: &[u8],
+    at: usize,
+    output: &mut Bytes,
+) -> Result<(), NoMemory> {
+    let (first, second) = cut(octets, at);
+    feed(connection, first)?;
+    keep_output(connection, output)?;
+    feed(connection, second)?;
+    end(connection)?;
+    keep_output(connection, output)
+}
+
 /// What is written for octets that come in two pieces, cut there.
 fn replies<S: Service + Drop>(
     alloc: Global,
@@ -46,13 +71,67 @@ fn replies<S: Service + Drop>(
 ) -> Result<Bytes, NoMemory> {
     let mut connection = connection_of(alloc, service);
     let mut output = Bytes::new(alloc);
-    let (first, second) = cut(octets, at);
-    feed(&mut connection, first)?;
-    output.extend(take_output(&mut connection).as_slice())?;
-    feed(&mut connection, second)?;
-    end(&mut connection)?;
-    output.extend(take_output(&mut connection).as_slice())?;
+    feed_cut(&mut connection, octets, at, &mut output)?;
     Ok(output)
+}
+
+/// What is done with a connection.
+#[derive(Clone, Copy)]
+enum Move<'a> {
+    Feed(&'a [u8]),
+    End,
+    Drain,
+    TakeOutput,
+}
+
+fn fed_word(fed: Fed) -> &'static [u8] {
+    match fed {
+        Fed::More => b"<more>",
+        Fed::Closed => b"<closed>",
+    }
+}
+
+/// Makes a move, and appends what it gives.
+fn make_move<S: Service>(
+    connection: &mut Connection<S>,
+    what: Move<'_>,
+    story: &mut Bytes,
+) -> Result<(), NoMemory> {
+    match what {
+        Move::Feed(piece) => {
+            let fed = feed(connection, piece)?;
+            story.extend(fed_word(fed))
+        }
+        Move::End => end(connection),
+        Move::Drain => {
+            drain(connection);
+            Ok(())
+        }
+        Move::TakeOutput => keep_output(connection, story),
+    }
+}
+
+fn make_moves<S: Service>(
+    connection: &mut Connection<S>,
+    moves: &[Move<'_>],
+    story: &mut Bytes,
+) -> Result<(), NoMemory> {
+    for what in moves {
+        make_move(connection, *what, story)?;
+    }
+    Ok(())
+}
+
+/// What these moves give: a word for each piece, and the output where it is taken.
+fn story_of<S: Service + Drop>(
+    alloc: Global,
+    service: S,
+    moves: &[Move<'_>],
+) -> Result<Bytes, NoMemory> {
+    let mut connection = connection_of(alloc, service);
+    let mut story = Bytes::new(alloc);
+    make_moves(&mut connection, moves, &mut story)?;
+    Ok(story)
 }
 
 fn expect<S: Service + Drop>(
@@ -330,56 +409,74 @@ fn head_with_value(alloc: Global, count: usize) -> Result<Bytes, NoMemory> {
 #[test]
 fn heads_have_a_limit(rt: HostRuntime) -> Result<(), Fail> {
     let alloc = rt.alloc();
-    let mut connection = connection_of(alloc, Echo);
     let longest = head_with_value(alloc, 65_504)?;
     assert!(&rt; longest.len() == 65_536);
-    assert!(&rt; feed(&mut connection, longest.as_slice())? == Fed::More);
-    assert!(&rt; take_output(&mut connection).as_slice() == OK_EMPTY);
     let longer = head_with_value(alloc, 65_505)?;
     let (most, last) = cut(longer.as_slice(), 65_535);
-    assert!(&rt; feed(&mut connection, most)? == Fed::More);
-    assert!(&rt; feed(&mut connection, last)? == Fed::Closed);
-    assert!(&rt; take_output(&mut connection).as_slice() == FAULT);
-    Ok(())
-}
-
-#[test]
-fn octets_behind_a_last_request_are_dropped(rt: HostRuntime) -> Result<(), Fail> {
-    let mut connection = connection_of(rt.alloc(), Target);
-    assert!(&rt; feed(&mut connection, b"GET /a HTTP/1.1\r\nHost: a\r\n")? == Fed::More);
-    assert!(&rt; feed(&mut connection, b"Connection: close\r\n\r\nGET /b")? == Fed::Closed);
-    assert!(&rt; feed(&mut connection, b" HTTP/1.1\r\nHost: a\r\n\r\n")? == Fed::Closed);
-    end(&mut connection)?;
-    drain(&mut connection);
-    let output = take_output(&mut connection);
+    let moves = [
+        Move::Feed(longest.as_slice()),
+        Move::TakeOutput,
+        Move::Feed(most),
+        Move::Feed(last),
+        Move::TakeOutput,
+    ];
+    let story = story_of(alloc, Echo, &moves)?;
     assert!(&rt;
-        output.as_slice()
-            == b"HTTP/1.1 200 OK\r\nContent-Length: 6\r\nConnection: close\r\n\r\nGET /a".as_slice()
+        story.as_slice()
+            == b"<more>HTTP/1.1 200 OK\r\nContent-Length: 0\r\n\r\n<more><closed>HTTP/1.1 400 Bad Request\r\nContent-Length: 0\r\nConnection: close\r\n\r\n".as_slice()
     );
-    assert!(&rt; take_output(&mut connection).is_empty());
     Ok(())
 }
 
-#[test]
-fn octets_behind_the_end_are_dropped(rt: HostRuntime) -> Result<(), Fail> {
-    let mut connection = connection_of(rt.alloc(), Echo);
-    end(&mut connection)?;
-    assert!(&rt; feed(&mut connection, b"GET / HTTP/1.1\r\nHost: a\r\n\r\n")? == Fed::Closed);
-    drain(&mut connection);
-    end(&mut connection)?;
-    assert!(&rt; take_output(&mut connection).is_empty());
-    Ok(())
+/// Moves, and what they give.
+#[derive(Clone, Copy)]
+struct Story {
+    moves: &'static [Move<'static>],
+    story: &'static [u8],
 }
 
+/// What follows a last request, the end or a drain is dropped.
+static STORIES: [Story; 3] = [
+    Story {
+        moves: &[
+            Move::Feed(b"GET /a HTTP/1.1\r\nHost: a\r\n"),
+            Move::Feed(b"Connection: close\r\n\r\nGET /b"),
+            Move::Feed(b" HTTP/1.1\r\nHost: a\r\n\r\n"),
+            Move::End,
+            Move::Drain,
+            Move::TakeOutput,
+            Move::TakeOutput,
+        ],
+        story: b"<more><closed><closed>HTTP/1.1 200 OK\r\nContent-Length: 6\r\nConnection: close\r\n\r\nGET /a",
+    },
+    Story {
+        moves: &[
+            Move::End,
+            Move::Feed(b"GET / HTTP/1.1\r\nHost: a\r\n\r\n"),
+            Move::Drain,
+            Move::End,
+            Move::TakeOutput,
+        ],
+        story: b"<closed>",
+    },
+    Story {
+        moves: &[
+            Move::Feed(b"GET / HTTP/1.1\r\nHost: a\r\n\r\nGET /"),
+            Move::Drain,
+            Move::Feed(b" HTTP/1.1\r\nHost: a\r\n\r\n"),
+            Move::End,
+            Move::TakeOutput,
+        ],
+        story: b"<more><closed>HTTP/1.1 200 OK\r\nContent-Length: 5\r\n\r\nGET /",
+    },
+];
+
 #[test]
-fn octets_behind_a_drain_are_dropped(rt: HostRuntime) -> Result<(), Fail> {
-    let mut connection = connection_of(rt.alloc(), Echo);
-    assert!(&rt; feed(&mut connection, b"GET / HTTP/1.1\r\nHost: a\r\n\r\nGET /")? == Fed::More);
-    drain(&mut connection);
-    assert!(&rt; feed(&mut connection, b" HTTP/1.1\r\nHost: a\r\n\r\n")? == Fed::Closed);
-    end(&mut connection)?;
-    assert!(&rt; take_output(&mut connection).as_slice() == OK_EMPTY);
-    let Echo = connection.service();
+fn octets_behind_an_end_are_dropped(rt: HostRuntime) -> Result<(), Fail> {
+    for told in STORIES.iter() {
+        let story = story_of(rt.alloc(), Target, told.moves)?;
+        assert!(&rt; story.as_slice() == told.story);
+    }
     Ok(())
 }
 
@@ -396,25 +493,43 @@ static NO_REQUESTS: [(&[u8], usize); 7] = [
     (b"GET / HTTP/1.1\r\nno field\r\nHost: a\r\n\r\nGET", 37),
 ];
 
-/// How many octets are taken, each in a piece of its own, until the connection closes.
-fn taken_until_closed(alloc: Global, octets: &[u8]) -> Result<usize, NoMemory> {
-    let mut connection = connection_of(alloc, Echo);
-    for (index, octet) in octets.iter().enumerate() {
-        if feed(&mut connection, &[*octet])? == Fed::Closed {
-            return Ok(index.saturating_add(1));
+fn count_until_closed<S: Service>(
+    connection: &mut Connection<S>,
+    octets: &[u8],
+) -> Result<usize, NoMemory> {
+    let mut count: usize = 0;
+    for octet in octets {
+        count = count.saturating_add(1);
+        if feed(connection, &[*octet])? == Fed::Closed {
+            return Ok(count);
         }
     }
     Ok(0)
+}
+
+/// How many octets are taken, each in a piece of its own, until the connection closes.
+fn taken_until_closed(alloc: Global, octets: &[u8]) -> Result<usize, NoMemory> {
+    let mut connection = connection_of(alloc, Echo);
+    count_until_closed(&mut connection, octets)
 }
 
 #[test]
 fn octets_that_begin_no_request_are_refused_early(rt: HostRuntime) -> Result<(), Fail> {
     for (octets, count) in NO_REQUESTS.iter() {
         assert!(&rt; taken_until_closed(rt.alloc(), octets)? == *count);
-        let mut connection = connection_of(rt.alloc(), Echo);
-        let (first, _) = cut(octets, *count);
-        assert!(&rt; feed(&mut connection, first)? == Fed::Closed);
-        assert!(&rt; take_output(&mut connection).as_slice() == FAULT);
+    }
+    Ok(())
+}
+
+#[test]
+fn octets_that_begin_no_request_are_refused_at_once(rt: HostRuntime) -> Result<(), Fail> {
+    for (octets, count) in NO_REQUESTS.iter() {
+        let (front, _) = cut(octets, *count);
+        let story = story_of(rt.alloc(), Echo, &[Move::Feed(front), Move::TakeOutput])?;
+        assert!(&rt;
+            story.as_slice()
+                == b"<closed>HTTP/1.1 400 Bad Request\r\nContent-Length: 0\r\nConnection: close\r\n\r\n".as_slice()
+        );
     }
     Ok(())
 }
@@ -422,52 +537,63 @@ fn octets_that_begin_no_request_are_refused_early(rt: HostRuntime) -> Result<(),
 #[test]
 fn too_many_fields_are_refused_at_the_limit(rt: HostRuntime) -> Result<(), Fail> {
     let alloc = rt.alloc();
-    let mut connection = connection_of(alloc, Echo);
-    assert!(&rt; feed(&mut connection, b"GET / HTTP/1.0\r\n")? == Fed::More);
-    assert!(&rt; feed(&mut connection, many(alloc, b"A: b\r\n", 101)?.as_slice())? == Fed::More);
-    assert!(&rt; feed(&mut connection, b"\r\n")? == Fed::More);
+    let fields = many(alloc, b"A: b\r\n", 101)?;
     let rest = many(alloc, b"x", 64_911)?;
-    assert!(&rt; feed(&mut connection, rest.as_slice())? == Fed::More);
-    assert!(&rt; take_output(&mut connection).is_empty());
-    assert!(&rt; feed(&mut connection, b"x")? == Fed::Closed);
-    assert!(&rt; take_output(&mut connection).as_slice() == FAULT);
+    let moves = [
+        Move::Feed(b"GET / HTTP/1.0\r\n"),
+        Move::Feed(fields.as_slice()),
+        Move::Feed(b"\r\n"),
+        Move::Feed(rest.as_slice()),
+        Move::TakeOutput,
+        Move::Feed(b"x"),
+        Move::TakeOutput,
+    ];
+    let story = story_of(alloc, Echo, &moves)?;
+    assert!(&rt;
+        story.as_slice()
+            == b"<more><more><more><more><closed>HTTP/1.1 400 Bad Request\r\nContent-Length: 0\r\nConnection: close\r\n\r\n".as_slice()
+    );
     Ok(())
 }
 
-/// What a service was asked on a connection whose octets come in two pieces, cut there, with those
-/// of another connection between them.
-fn asked(alloc: Global, octets: &[u8], at: usize) -> Result<Bytes, NoMemory> {
-    let log = Log {
-        targets: Bytes::new(alloc),
-    };
-    let mut connection = connection_of(alloc, log);
-    let mut other = connection_of(
-        alloc,
-        Log {
-            targets: Bytes::new(alloc),
-        },
-    );
+fn logged(alloc: Global) -> Connection<Log> {
+    let targets = Bytes::new(alloc);
+    connection_of(alloc, Log { targets })
+}
+
+/// Octets come in two pieces, cut there, with those of another connection between them.
+fn feed_both(
+    connection: &mut Connection<Log>,
+    other: &mut Connection<Log>,
+    octets: &[u8],
+    at: usize,
+) -> Result<(), NoMemory> {
     let (first, second) = cut(octets, at);
-    feed(&mut connection, first)?;
-    feed(&mut other, b"GET /other HTTP/1.1\r\nHost: a\r\n\r\n")?;
-    feed(&mut connection, second)?;
-    end(&mut connection)?;
-    end(&mut other)?;
+    feed(connection, first)?;
+    feed(other, b"GET /other HTTP/1.1\r\nHost: a\r\n\r\n")?;
+    feed(connection, second)?;
+    end(connection)?;
+    end(other)
+}
+
+/// What the services were asked then.
+fn asked(alloc: Global, octets: &[u8], at: usize) -> Result<Bytes, NoMemory> {
+    let mut connection = logged(alloc);
+    let mut other = logged(alloc);
+    feed_both(&mut connection, &mut other, octets, at)?;
     let mut targets = connection.service().targets;
     targets.extend(other.service().targets.as_slice())?;
     Ok(targets)
 }
 
+const FIVE_REQUESTS: &[u8] =
+    b"GET /1 HTTP/1.1\r\nHost: a\r\n\r\nPOST /2 HTTP/1.1\r\nHost: a\r\nContent-Length: 3\r\n\r\nabcGET /1 HTTP/1.1\r\nHost: a\r\n\r\nHEAD /3 HTTP/1.0\r\n\r\nGET /4 HTTP/1.1\r\nHost: a\r\n\r\n";
+
 #[test]
 fn a_service_is_asked_once_for_each_request_in_order(rt: HostRuntime) -> Result<(), Fail> {
-    let octets =
-        b"GET /1 HTTP/1.1\r\nHost: a\r\n\r\nPOST /2 HTTP/1.1\r\nHost: a\r\nContent-Length: 3\r\n\r\nabcGET /1 HTTP/1.1\r\nHost: a\r\n\r\nHEAD /3 HTTP/1.0\r\n\r\nGET /4 HTTP/1.1\r\nHost: a\r\n\r\n";
-    for at in 0..=octets.len() {
-        let targets = asked(rt.alloc(), octets, at)?;
-        assert!(&rt;
-            targets.as_slice() == b"/1 /2 /1 /3 /other ".as_slice(),
-            "cut at {at}"
-        );
+    for at in 0..=FIVE_REQUESTS.len() {
+        let targets = asked(rt.alloc(), FIVE_REQUESTS, at)?;
+        assert!(&rt; targets.as_slice() == b"/1 /2 /1 /3 /other ".as_slice());
     }
     Ok(())
 }
