@@ -98,12 +98,14 @@ pub trait Nodes {
         requires roots { AreRoots (is_taken self.old) (parts_of (shown [] form)) }
         requires built { AreBuilt (next self.old) (parts_of (shown [] form)) }
         requires fits { IsTrue (room self.old (row (link_number before) 1 ∷ [])) }
-        requires numbers { next self.old < 2 ^ 63 + 8 }
+        requires numbers { next self.old < 2 ^ 63 + 9 }
         ensures number { result.number.0 ≡ next self.old }
         ensures next { next self.new ≡ next self.old + 1 }
         ensures rest { (more : List RowSeen) (count : ℕ) → 0 < count → AreRowsBuilt (next self.old) more → IsTrue (room self.old (row (link_number before) count ∷ more)) → IsTrue (room self.new (rows_left (next self.old) count more)) }
         ensures stands { (w : World) → stands self.old w → stands self.new (built (link_number before) (shown [] form) w) }
+        ensures anew { (w : World) → stands self.old w → form_at (next self.old) w.nodes ≡ None }
         ensures root { is_taken self.new result.number.0 ≡ false }
+        ensures unlisted { is_listed self.new result.number.0 ≡ false }
         ensures taken { RisesIn (parts_of (shown [] form)) (is_taken self.old) (is_taken self.new) }
         ensures listed { OnlyFalls (is_listed self.old) (is_listed self.new) }
         ensures plain { OnlyRises (is_plain self.old) (is_plain self.new) }
