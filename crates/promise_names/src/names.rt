@@ -6,6 +6,7 @@ ghost use Rattle.kj_model.specs.Changes.{named, unnamed};
 ghost use Rattle.kj_model.specs.Fire.{group_of, without_left_over};
 ghost use Rattle.promise_nodes.specs.Shown.{link_number};
 ghost use Rattle.promise_nodes.specs.Kept.{SameNames};
+ghost use Rattle.promise_names.specs.Once.{AreOnce};
 ghost use Rattle.promise_names.specs.Held.{held_shown, SeesHeld, IsListless, IsNoAsk, HasRoot, root_of, name_number, awaited_name, first_name, root_renamed, roots_replaced, with_left_over, with_lost, stopped_world, left_world, AreApart};
 ghost use Rattle.promise_names.specs.declared.names.Held.{Held};
 
@@ -174,6 +175,12 @@ pub trait Names {
 
     /// The trees that are left over.
     ghost over_is: { (names : Self) (w : World) → stands names w → w.left_over ≡ over names };
+
+    /// No name stands twice.
+    ghost once: { (names : Self) (w : World) → stands names w → AreOnce w.names };
+
+    /// How many names there may be in each world that it stands for.
+    ghost limit_is: { (names : Self) (w : World) → stands names w → w.limits.names ≡ limit names };
 
     /// No set has a task.
     ghost no_tasks: { (names : Self) (w : World) (n : ℕ) → stands names w → group_of n w.names ≡ None };
