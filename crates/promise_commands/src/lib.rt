@@ -4,11 +4,13 @@
 mod action;
 mod command;
 mod refused;
+mod script;
 mod sources;
 mod steps;
 
 pub use action::{Action, Commands};
 pub use command::Command;
 pub use refused::Refused;
+pub use script::{Bodies, Body, Line, Lines, NumberedLine, Script};
 pub use sources::{MAX_PARTS, Sources};
 pub use steps::Steps;
