@@ -9,7 +9,7 @@ use Rattle.promise_names.specs.declared.names.Leaving.TheVariants.{Nothing, Cell
 use Rattle.promise_names.specs.declared.names.Held.{Held as HeldCase}
 use Rattle.promise_names.specs.declared.names.Held.TheVariants.{Promise as PromiseCase, CellOf as CellCase, AskCell as AskCase, HubOf as HubCase, Group as GroupCase, Canceler as CancelerCase, RequestOf as RequestCase}
 use Rattle.name_table.specs.declared.entries.Entry.{Entry}
-use Rattle.name_table.specs.Entries.{held_in, entered, names_of}
+use Rattle.name_table.specs.Entries.{held_in, names_of}
 use Rattle.name_table.specs.Table.{Table, Stands, HasNoAsks}
 use Rattle.name_table.proofs.Names.{seen, shown_held, named_is}
 use Rattle.name_table.proofs.Ranks.{put_again}

@@ -5,3 +5,4 @@ pub mod Replaced
 pub mod Leaving
 pub mod Trees
 pub mod Calls
+pub mod Alone

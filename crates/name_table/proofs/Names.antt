@@ -2,8 +2,8 @@
 use Rattle.std.proofs.Common.{◌≡◌, ℕ, Bool, true, false, List, [], ◌∷◌, Option, None, Some, refl, sym, ap, ◌∙◌, subst}
 use Rattle.std.specs.Prelude.{nat_lt, nat_eq}
 use Rattle.kj_base.specs.declared.numbers.Name.{Name}
-use Rattle.kj_model.specs.World.{World, Named, Held, held_at}
-use Rattle.kj_model.specs.Changes.{without_name, with_new, named, unnamed}
+use Rattle.kj_model.specs.World.{Named, Held, held_at}
+use Rattle.kj_model.specs.Changes.{without_name, with_new}
 use Rattle.promise_names.specs.Held.{held_shown, SeesHeld}
 use Rattle.promise_names.specs.declared.names.Held.{Held as HeldCase}
 use Rattle.name_table.specs.declared.entries.Entry.{Entry}

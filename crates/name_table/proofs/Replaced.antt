@@ -1,5 +1,5 @@
 -- A tree takes the place of another under a name.
-use Rattle.std.proofs.Common.{◌≡◌, ℕ, ◌+◌, ◌<◌, Bool, true, false, List, [], ◌∷◌, ◌++◌, Option, None, Some, map, length, take, drop, get_or, refl, sym, ap, ◌∙◌}
+use Rattle.std.proofs.Common.{◌≡◌, ℕ, ◌+◌, ◌<◌, Bool, true, false, List, [], ◌∷◌, ◌++◌, Some, map, length, take, drop, get_or, refl, sym, ap, ◌∙◌}
 use Rattle.std.specs.Prelude.{nat_eq, slice_set}
 use Rattle.std.proofs.lemmas.List.{get_or_default}
 use Rattle.std.proofs.lemmas.List.Edits.{map_over_more}
@@ -12,7 +12,7 @@ use Rattle.promise_names.specs.Held.{held_shown, IsNoAsk, root_of, root_renamed}
 use Rattle.promise_names.specs.declared.names.Held.{Held as HeldCase}
 use Rattle.promise_names.specs.declared.names.Held.TheVariants.{Promise as PromiseCase, CellOf as CellCase, AskCell as AskCase, HubOf as HubCase, Group as GroupCase, Canceler as CancelerCase, RequestOf as RequestCase}
 use Rattle.name_table.specs.declared.entries.Entry.{Entry}
-use Rattle.name_table.specs.Entries.{IsRising, held_in, link_if, held_replaced, entry_replaced, shown_entry, names_of}
+use Rattle.name_table.specs.Entries.{IsRising, held_in, link_if, held_replaced, entry_replaced, names_of}
 use Rattle.name_table.specs.Table.{HasNoAsks}
 
 link_is : (b : Bool) (new root : Link) → (link_if b new root).number.0 ≡ renamed_if b new.number.0 root.number.0

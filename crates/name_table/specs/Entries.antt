@@ -1,5 +1,5 @@
 -- Names with what they hold, by rising name.
-use Rattle.std.specs.Prelude.{◌≡◌, ◌<◌, ℕ, zero, suc, List, [], ◌∷◌, Option, None, Some, Bool, true, false, not, ◌==◌, nat_lt, slice_get, filter, map, if◌then◌else◌}
+use Rattle.std.specs.Prelude.{◌<◌, ℕ, zero, suc, List, [], ◌∷◌, Option, None, Some, Bool, true, false, not, ◌==◌, nat_lt, slice_get, filter, map, if◌then◌else◌}
 use Rattle.std.specs.List.{AllByRecursion}
 use Rattle.kj_base.specs.declared.nodes.Link.{Link}
 use Rattle.kj_model.specs.World.{Named}

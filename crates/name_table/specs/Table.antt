@@ -1,5 +1,5 @@
 -- What a contract sees of a `NameTable`.
-use Rattle.std.specs.Prelude.{◌≡◌, ℕ, ◌≤◌, ◌<◌, ◌^◌, List, [], ◌∷◌, Option, None, Some, Bool, not, ◌==◌, map, length, vec_capacity}
+use Rattle.std.specs.Prelude.{◌≡◌, ℕ, ◌≤◌, ◌<◌, ◌^◌, List, [], Option, Bool, not, ◌==◌, map, length, vec_capacity}
 use Rattle.std.specs.List.{AllByRecursion}
 use Rattle.kj_base.specs.declared.nodes.Link.{Link}
 use Rattle.kj_base.specs.declared.numbers.Name.{Name}

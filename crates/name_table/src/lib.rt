@@ -7,3 +7,6 @@ mod table;
 
 pub use entries::Entry;
 pub use table::NameTable;
+
+#[cfg(test)]
+mod tests;

@@ -1,5 +1,5 @@
 //! The table of names.
-ghost use Rattle.std.specs.Prelude.{◌≡◌, ℕ, IfOk};
+ghost use Rattle.std.specs.Prelude.{◌≡◌, [], IfOk};
 ghost use Rattle.kj_base.specs.declared.numbers.Limits.{Limits};
 ghost use Rattle.kj_model.specs.World.{new_world};
 ghost use Rattle.name_table.specs.Table.{Stands};
@@ -41,7 +41,9 @@ impl NameTable {
     /// No names, in a loop with these limits. This takes all memory.
     pub fn new(alloc: Global, limits: Limits) -> Result<NameTable, NoMemory>
         ensures stands { IfOk result (λ names. (all : Limits) → all.names ≡ limits.names → Stands names (new_world all)) }
+        ensures no_names { IfOk result (λ names. names.entries ≡ []) }
         ensures limit { IfOk result (λ names. names.limit ≡ limits.names) }
+        ensures none_over { IfOk result (λ names. names.over ≡ []) }
     {
         Ok(NameTable {
             entries: Vec::with_capacity(alloc, limits.names as usize)?,
@@ -133,11 +135,15 @@ impl Names for NameTable {
         left_over::drop_tree(&mut self.over, tree);
     }
 
-    ghost use Rattle.name_table.specs.Laws.{table_nodes_free, table_over_is, table_no_tasks};
+    ghost use Rattle.name_table.specs.Laws.{table_nodes_free, table_over_is, table_no_tasks, table_once, table_limit_is};
 
     ghost nodes_free = { table_nodes_free };
 
     ghost over_is = { table_over_is };
 
     ghost no_tasks = { table_no_tasks };
+
+    ghost once = { table_once };
+
+    ghost limit_is = { table_limit_is };
 }

@@ -1,4 +1,4 @@
-use Rattle.std.proofs.Common.{◌≡◌, ℕ, ap, ◌∙◌}
+use Rattle.std.proofs.Common.{ℕ, ap, ◌∙◌}
 use Rattle.std.specs.Prelude.{slice_get}
 use Rattle.name_table.specs.Entries.{held_if}
 use Rattle.name_table.proofs.Ranks.{found_is}

@@ -1,6 +1,6 @@
-use Rattle.std.proofs.Common.{◌≡◌, ℕ, true, false, sym, ap, ◌∙◌, insert, slice_set, arith, length}
+use Rattle.std.proofs.Common.{◌≡◌, ℕ, true, false, sym, ap, ◌∙◌, insert, slice_set}
 use Rattle.name_table.specs.Entries.{is_name_at, rank}
-use Rattle.name_table.proofs.Ranks.{put_there, put_anew, name_within}
+use Rattle.name_table.proofs.Ranks.{put_there, put_anew}
 use Rattle.name_table.proofs.entries.put.Goals as goal
 
 pub returns-then-is_at-clause-items : goal.returns-then-is_at-clause-items

@@ -1,4 +1,4 @@
-use Rattle.std.proofs.Common.{◌≡◌, ℕ, ◌<◌, ap, arith, length}
+use Rattle.std.proofs.Common.{◌≡◌, ◌<◌, ap, arith, length}
 use Rattle.name_table.proofs.Replaced.{replaced_more}
 use Rattle.name_table.proofs.entries.replace.Goals as goal
 

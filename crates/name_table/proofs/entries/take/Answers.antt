@@ -1,7 +1,7 @@
-use Rattle.std.proofs.Common.{◌≡◌, ℕ, true, false, None, sym, ap, ◌∙◌, remove, rules, subst}
+use Rattle.std.proofs.Common.{◌≡◌, ℕ, true, false, sym, ap, ◌∙◌, remove, subst}
 use Rattle.std.specs.Prelude.{IsSome}
 use Rattle.std.proofs.lemmas.Bool.{false≢true}
-use Rattle.name_table.specs.Entries.{is_name_at, rank, held_in}
+use Rattle.name_table.specs.Entries.{is_name_at, rank}
 use Rattle.name_table.proofs.Ranks.{taken_there, stays_absent, absent_is}
 use Rattle.name_table.proofs.entries.take.Goals as goal
 

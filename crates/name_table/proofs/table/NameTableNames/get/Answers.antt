@@ -10,4 +10,4 @@ pub returns-clause-held : goal.returns-clause-held
 returns-clause-held c w st =
     let inner : Stands (view_of c.self.inside) w = subst (λ (t : Table). Stands t w) (sym c.self.view_is) st in
     subst (λ (o : Option Held). SeesHeld o (held_at c.args.name.0 w.names)) (sym c.held_of.ensures)
-      (sees c.args.name.0 c.self.inside.entries.items w.names inner.names)
+    (sees c.args.name.0 c.self.inside.entries.items w.names inner.names)

@@ -1,4 +1,4 @@
-use Rattle.std.proofs.Common.{◌≡◌, ℕ, None, sym, subst, arith, rules}
+use Rattle.std.proofs.Common.{None, sym, subst, arith}
 use Rattle.promise_names.specs.Held.{HasRoot}
 use Rattle.name_table.specs.Entries.{IsRising}
 use Rattle.name_table.specs.Table.{Table, Stands, view_of, root_at}
@@ -14,7 +14,8 @@ invariant_of-self c =
       few = omega (arith, c.take.ensures.few, kept.few);
       counted = kept.counted;
       room = omega (arith, c.take.ensures.capacity, kept.room);
-      room_over = kept.room_over }
+      room_over = kept.room_over;
+    }
 
 pub returns-clause-stands : goal.returns-clause-stands
 returns-clause-stands c w st listless =
@@ -25,4 +26,4 @@ pub returns-clause-root : goal.returns-clause-root
 returns-clause-root c =
     let new = c.take.new.entries.items in
     subst (λ (t : Table). HasRoot (root_at t) (root_at (with_entries new (view_of c.self.inside))) c.args.name.0 None) c.self.view_is
-      (remove_root c.args.name.0 new (view_of c.self.inside) c.take.ensures.items)
+    (remove_root c.args.name.0 new (view_of c.self.inside) c.take.ensures.items)

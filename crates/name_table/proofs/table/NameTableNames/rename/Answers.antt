@@ -1,4 +1,4 @@
-use Rattle.std.proofs.Common.{◌≡◌, ◌∙◌, ℕ, List, sym, subst, ap, arith, length, rules, map}
+use Rattle.std.proofs.Common.{◌≡◌, ◌∙◌, List, sym, subst, ap, arith, length}
 use Rattle.std.proofs.lemmas.List.{length-map}
 use Rattle.promise_names.specs.Held.{root_of, root_renamed}
 use Rattle.name_table.specs.declared.entries.Entry.{Entry}
@@ -18,7 +18,8 @@ invariant_of-self c =
       few = omega (arith, len, kept.few);
       counted = kept.counted;
       room = omega (arith, c.replace.ensures.capacity, kept.room);
-      room_over = kept.room_over }
+      room_over = kept.room_over;
+    }
 
 pub returns-clause-stands : goal.returns-clause-stands
 returns-clause-stands c w st =

@@ -1,4 +1,4 @@
-use Rattle.std.proofs.Common.{◌≡◌, ◌≤◌, ◌<◌, ◌+◌, ℕ, List, sym, subst, ap, arith, length, rules}
+use Rattle.std.proofs.Common.{◌<◌, sym, subst, arith, length}
 use Rattle.promise_names.specs.Held.{HasRoot, root_of}
 use Rattle.std.specs.Prelude.{Some}
 use Rattle.name_table.specs.declared.entries.Entry.{Entry}
@@ -19,7 +19,8 @@ invariant_of-self c =
       few = omega (arith, c.put.ensures.few, room);
       counted = kept.counted;
       room = omega (arith, c.put.ensures.capacity, kept.room);
-      room_over = kept.room_over }
+      room_over = kept.room_over;
+    }
 
 pub returns-clause-stands : goal.returns-clause-stands
 returns-clause-stands c w st listless =
@@ -30,4 +31,4 @@ pub returns-clause-root : goal.returns-clause-root
 returns-clause-root c =
     let new = c.put.new.entries.items in
     subst (λ (t : Table). HasRoot (root_at t) (root_at (with_entries new (view_of c.self.inside))) c.args.name.0 (root_of (Some c.args.held))) c.self.view_is
-      (set_root c.args.name c.args.held new (view_of c.self.inside) c.put.ensures.items)
+    (set_root c.args.name c.args.held new (view_of c.self.inside) c.put.ensures.items)

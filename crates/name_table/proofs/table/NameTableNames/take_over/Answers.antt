@@ -1,4 +1,4 @@
-use Rattle.std.proofs.Common.{◌≡◌, ◌∙◌, ℕ, sym, subst, ap}
+use Rattle.std.proofs.Common.{◌∙◌, sym, subst, ap}
 use Rattle.kj_model.specs.Nodes.{dropped}
 use Rattle.name_table.specs.Table.{Table, Stands, view_of, trees}
 use Rattle.name_table.proofs.Trees.{trees_dropped}
