@@ -1,20 +1,7 @@
 //! Numbers as text.
 ghost use Rattle.std.specs.Prelude.{◌≡◌, ◌++◌, ◌∷◌, ◌<◌, ◌^◌, ◌≤◌, ℕ, List, length, IfSome, IfNone, decimal};
-ghost use Rattle.std.specs.List.{prefix_len};
-ghost use Rattle.std.specs.Char.{is_ascii_digit};
 
-use kj_base::read_decimal;
-
-/// How many digits the octets begin with.
-fn digit_count(octets: &[u8]) -> usize
-    ensures count { result ≡ prefix_len is_ascii_digit octets.now }
-    ensures bound { result ≤ length octets.now }
-{
-    octets
-        .iter()
-        .take_while(|octet| octet.is_ascii_digit())
-        .count()
-}
+use kj_base::{digit_count, read_decimal};
 
 /// The number at the front, without leading zeros, which a LF follows, and what follows the LF.
 pub(crate) fn read_number(octets: &[u8]) -> Option<(u64, &[u8])>

@@ -25,7 +25,7 @@ pub use limits::{INPUT_LIMIT, MAX_NAMES, MAX_SLOTS, NAMES, SLOTS};
 pub use memory::NoMemory;
 pub use nodes::{Content, Form, Link, Node, Row, Slot, Stage};
 pub use numbers::{Limits, Name, NodeId, StepId};
-pub use numerals::{is_word, read_decimal};
+pub use numerals::{digit_count, is_word, read_decimal};
 pub use outcomes::{Exception, Kind, Outcome};
 pub use queue::{Queue, take_after_two_last};
 pub use refused::Refused;

@@ -9,7 +9,7 @@ pub struct NodeId(pub u64);
 pub struct StepId(pub u32);
 
 /// A name of a promise, a cell or another thing that commands speak of.
-#[derive(Clone, Copy, Debug, PartialEq, Eq)]
+#[derive(Clone, Copy, Debug, Default, PartialEq, Eq)]
 pub struct Name(pub u32);
 
 /// How many slots for nodes a loop has, and how many names there may be.

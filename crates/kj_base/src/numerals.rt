@@ -28,7 +28,8 @@ pub fn read_decimal(word: &[u8]) -> Option<u64>
     Some(value)
 }
 
-fn digit_count(word: &[u8]) -> usize
+/// How many digits a word begins with.
+pub fn digit_count(word: &[u8]) -> usize
     ensures count { result ≡ prefix_len is_ascii_digit word.now }
     ensures bound { result ≤ length word.now }
 {

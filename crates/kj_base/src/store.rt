@@ -1,6 +1,6 @@
 //! The keeper of nodes.
 ghost use Rattle.std.specs.Prelude.{◌≡◌, ◌≢◌, ◌<◌, ◌≤◌, ℕ, Bool, true, false, List, [], ◌∷◌, ◌++◌, Option, None, Some, IsSome, IsTrue, map, length};
-ghost use Rattle.kj_base.specs.Places.{Spot, Row as RowSeen, row, spot_placed, spots_without, IsOneToOne, spot_as, row_as};
+ghost use Rattle.kj_base.specs.Places.{Spot, Row as RowSeen, row, spot_of, spot_placed, spots_without, IsOneToOne, spot_as, row_as};
 ghost use Rattle.kj_base.specs.Store.{slot_number, rows_of, IsBareOrNone, IsCovered, StandsBefore, rows_after, KeepsOthers, HasLower, KeepsLive, is_named, AreBelow};
 ghost use Rattle.kj_base.specs.declared.nodes.Node.{Node};
 
@@ -102,6 +102,9 @@ pub trait Store {
 
     /// What fits is known from the spots.
     ghost ruled: { (store : Self) (spots : List Spot) (rows : List RowSeen) → stands store spots → room store rows ≡ rule (slots store) spots rows };
+
+    /// A row before a node that isn't there is one anew.
+    ghost unplaced: { (slot_count : ℕ) (spots : List Spot) (front : List RowSeen) (number count : ℕ) (back : List RowSeen) → spot_of number spots ≡ None → rule slot_count spots (front ++ row (Some number) count ∷ back) ≡ rule slot_count spots (front ++ row None count ∷ back) };
 
     /// What fits doesn't depend on the numbers of the nodes.
     ghost renamed: { (slot_count : ℕ) (rename : ℕ → ℕ) (spots : List Spot) (rows : List RowSeen) → IsOneToOne rename → rule slot_count (map (spot_as rename) spots) (map (row_as rename) rows) ≡ rule slot_count spots rows };

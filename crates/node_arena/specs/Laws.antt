@@ -216,3 +216,15 @@ short_needed spots (r ∷ rows) h = let k = short_needed spots rows h.1 in let e
 -- rows of at most eight nodes fit as the arenas say
 pub short_rows_fit : (slots : ℕ) (spots : List Spot) (rows : List Row) → AreShort rows → needs_fit slots spots rows ≡ arenas_fit slots spots rows
 short_rows_fit slots spots rows h = ap (λ n. nat_le (n + arenas spots) (slots / 8)) (short_needed spots rows h ∙ needed_is_sum (needs spots) rows)
+
+needed_unplaced : (spots : List Spot) (number count : ℕ) → spot_of number spots ≡ None → row_needs spots (row (Some number) count) ≡ row_needs spots (row None count)
+needed_unplaced spots number count h = ap (λ x. beyond_at count (place_in x)) h
+
+-- a row before a node that isn't there is one anew
+pub arena_unplaced : (slot_count : ℕ) (spots : List Spot) (front : List Row) (number count : ℕ) (back : List Row) → spot_of number spots ≡ None → needs_fit slot_count spots (front ++ row (Some number) count ∷ back) ≡ needs_fit slot_count spots (front ++ row None count ∷ back)
+arena_unplaced slot_count spots front number count back h =
+    let f = row_needs spots in
+    ap (λ n. nat_le (n + arenas spots) (slot_count / 8))
+    (needed_append f front (row (Some number) count ∷ back)
+    ∙ ap (λ n. needed f front + (n + needed f back)) (needed_unplaced spots number count h)
+    ∙ sym (needed_append f front (row None count ∷ back)))

@@ -354,7 +354,7 @@ impl Store for NodeArena {
         }
     }
 
-    ghost use Rattle.node_arena.specs.Laws.{arena_live_below, arena_bare_live, arena_few, arena_left_out, arena_one_of_two, arena_before_bare, arena_ruled, arena_renamed};
+    ghost use Rattle.node_arena.specs.Laws.{arena_live_below, arena_bare_live, arena_few, arena_left_out, arena_one_of_two, arena_before_bare, arena_ruled, arena_unplaced, arena_renamed};
 
     ghost live_below = { arena_live_below };
 
@@ -369,6 +369,8 @@ impl Store for NodeArena {
     ghost before_bare = { arena_before_bare };
 
     ghost ruled = { arena_ruled };
+
+    ghost unplaced = { arena_unplaced };
 
     ghost renamed = { arena_renamed };
 }

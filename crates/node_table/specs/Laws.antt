@@ -1,9 +1,9 @@
 -- The laws of a store, for the plain table.
-use Rattle.std.proofs.Common.{◌≡◌, ℕ, ◌+◌, ◌<◌, ◌≤◌, List, [], ◌∷◌, ◌++◌, Bool, true, false, Option, None, Some, IsSome, IsTrue, length, map, refl, arith}
+use Rattle.std.proofs.Common.{◌≡◌, ◌∙◌, ℕ, ◌+◌, ◌<◌, ◌≤◌, List, [], ◌∷◌, ◌++◌, Bool, true, false, Option, None, Some, IsSome, IsTrue, length, map, refl, sym, ap, arith}
 use Rattle.std.specs.Prelude.{nat_lt, nat_le, slice_index_or, fold}
 use Rattle.std.proofs.lemmas.Bool.{false≢true}
 use Rattle.std.proofs.lemmas.Bool.Decides.{nat_tests}
-use Rattle.kj_base.specs.Places.{Spot, Row, row, counts, table_fits, spot_as, row_as, IsOneToOne}
+use Rattle.kj_base.specs.Places.{Spot, Row, row, counts, table_fits, spot_of, spot_as, row_as, IsOneToOne}
 use Rattle.kj_base.specs.Store.{is_named}
 use Rattle.node_table.specs.declared.Cell.{Cell}
 use Rattle.node_table.specs.NodeTable.{Table, cell_if, cell_at, node_in, node_of, bare_in, bare_at, live_count, has_room, Stands}
@@ -69,3 +69,11 @@ counts_as rename (r ∷ rs) = let h = counts_as rename rs in omega (arith, h, co
 -- numbers don't matter
 pub table_renamed : (slot_count : ℕ) (rename : ℕ → ℕ) (spots : List Spot) (rows : List Row) → IsOneToOne rename → table_fits slot_count (map (spot_as rename) spots) (map (row_as rename) rows) ≡ table_fits slot_count spots rows
 table_renamed slot_count rename spots rows one = rw (length_as rename spots, counts_as rename rows) refl
+
+-- a row before a node that isn't there is one anew
+pub table_unplaced : (slot_count : ℕ) (spots : List Spot) (front : List Row) (number count : ℕ) (back : List Row) → spot_of number spots ≡ None → table_fits slot_count spots (front ++ row (Some number) count ∷ back) ≡ table_fits slot_count spots (front ++ row None count ∷ back)
+table_unplaced slot_count spots front number count back h =
+    ap (λ n. nat_le (length spots + n) slot_count)
+    (counts_append front (row (Some number) count ∷ back)
+    ∙ ap (λ n. counts front + n) (counts_cons (row (Some number) count) back ∙ sym (counts_cons (row None count) back))
+    ∙ sym (counts_append front (row None count ∷ back)))

@@ -180,7 +180,7 @@ impl Store for NodeTable {
         self.cells.remove(slot.0 as usize);
     }
 
-    ghost use Rattle.node_table.specs.Laws.{table_live_below, table_bare_live, table_few, table_left_out, table_one_of_two, table_before_bare, table_ruled, table_renamed};
+    ghost use Rattle.node_table.specs.Laws.{table_live_below, table_bare_live, table_few, table_left_out, table_one_of_two, table_before_bare, table_ruled, table_unplaced, table_renamed};
 
     ghost live_below = { table_live_below };
 
@@ -195,6 +195,8 @@ impl Store for NodeTable {
     ghost before_bare = { table_before_bare };
 
     ghost ruled = { table_ruled };
+
+    ghost unplaced = { table_unplaced };
 
     ghost renamed = { table_renamed };
 }

@@ -1,3 +1,4 @@
 pub mod Uses
 pub mod Roots
 pub mod Same
+pub mod Live

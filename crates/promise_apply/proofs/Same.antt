@@ -10,8 +10,7 @@ use Rattle.kj_model.specs.Changes.{named, unnamed, arm_listener, put}
 use Rattle.kj_model.specs.Effects.{with_detached}
 use Rattle.kj_model.specs.Listening.{listened, listened_if, listened_way, listener, ready, is_last, settled, settled_form}
 use Rattle.kj_model.specs.Places.{built, numbered, placed_over, placed_if}
-use Rattle.promise_nodes.specs.Kept.{SameNodes}
-use Rattle.promise_names.specs.Held.{SameNames}
+use Rattle.promise_nodes.specs.Kept.{SameNodes, SameNames}
 
 built_if : (b : Bool) (x : Spot) (form : Form) (w : World) → SameNames w (numbered form (placed_if b x w))
 built_if true x form w = refl
@@ -45,8 +44,9 @@ named_nodes name held w = refl
 pub unnamed_nodes : (name : ℕ) (w : World) → SameNodes w (unnamed name w)
 unnamed_nodes name w = refl
 
-pub detached_nodes : (task : ℕ) (w : World) → SameNodes w (with_detached task w)
-detached_nodes task w = refl
+-- and names, when the loop's own set gets a task
+pub enlisted_names : (task : ℕ) (w : World) → SameNames w (with_detached task w)
+enlisted_names task w = refl
 
 settled_case : (way : Way) (n : ℕ) (o : Outcome) (w : World) (f : Option Form) → SameNames w (settled_form way n o f w)
 settled_case way n o w (Some (Cell None)) = let v = put n (Cell (Some o)) w in armed_names way (listener n v) v

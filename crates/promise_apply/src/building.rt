@@ -88,9 +88,7 @@ fn take_source<N: Nodes, M: Names>(
     ensures root { N.is_taken nodes.new result.number.0 ≡ false }
     ensures next { N.next nodes.new ≡ N.next nodes.old + 1 }
     ensures count { M.count names.new + 1 ≡ M.count names.old }
-    ensures tasks { M.task_count names.new ≡ M.task_count names.old }
     ensures limit { M.limit names.new ≡ M.limit names.old }
-    ensures task_limit { M.task_limit names.new ≡ M.task_limit names.old }
     ensures slots { N.slots nodes.new ≡ N.slots nodes.old }
 {
     names.remove(source);
@@ -127,7 +125,6 @@ pub fn build_over<N: Nodes, M: Names>(
 pub fn detach<N: Nodes, M: Names>(nodes: &mut N, names: &mut M, source: Name, root: Link)
     requires source { M.roots names.old source.0 ≡ Some root.number.0 }
     requires fits { IsTrue (N.room nodes.old (row (Some root.number.0) 1 ∷ [])) }
-    requires tasks { M.task_count names.old < M.task_limit names.old }
     requires numbers { N.next nodes.old < 2 ^ 63 + 8 }
     requires free { AreFree (M.roots names.old) (N.is_taken nodes.old) (N.next nodes.old) }
     ensures stands { (w : World) → Both (N.stands nodes.old) (M.stands names.old) w → held_at source.0 w.names ≡ Some (Promise root.number.0) → Both (N.stands nodes.new) (M.stands names.new) (detached_built source.0 w) }
@@ -137,6 +134,6 @@ pub fn detach<N: Nodes, M: Names>(nodes: &mut N, names: &mut M, source: Name, ro
     ensures slots { N.slots nodes.new ≡ N.slots nodes.old }
 {
     let task = take_source(nodes, names, source, root, Over::Task);
-    names.detach(task);
+    nodes.enlist(task);
     listen(nodes, root);
 }

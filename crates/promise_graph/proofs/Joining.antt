@@ -29,12 +29,12 @@ other_form at m k h hub live s node e p = one_slot at m k s h hub (ap number_of 
 out_more : (x b : ℕ) (xs : List ℕ) → IsOut x xs → x ≢ b → IsOut x (xs ++ b ∷ [])
 out_more x b xs h d = all_append (λ y. x ≢ y) xs (b ∷ []) h (d, tt)
 
-apart_more : (h b : ℕ) (xs : List ℕ) → AreApart h xs → h ≢ b → IsOut b xs → AreApart h (xs ++ b ∷ [])
+pub apart_more : (h b : ℕ) (xs : List ℕ) → AreApart h xs → h ≢ b → IsOut b xs → AreApart h (xs ++ b ∷ [])
 apart_more h b [] a d out = (d, tt, tt)
 apart_more h b (x ∷ xs) a d out = (a.0, out_more x b xs a.1 (λ e. out.0 (sym e)), apart_more h b xs a.2 d out.1)
 
 module _ (old new : Rings) (b h slots : ℕ) (c : IsJoined old new b h) (k : ArePaired old slots) (low : h < slots) where
-  path_joined : (a : ℕ) (xs : List ℕ) → IsPath (next_at old) (prev_at old) a xs h → a ≢ b → IsOut b xs → AreApart h xs → IsPath (next_at new) (prev_at new) a (xs ++ b ∷ []) h
+  pub path_joined : (a : ℕ) (xs : List ℕ) → IsPath (next_at old) (prev_at old) a xs h → a ≢ b → IsOut b xs → AreApart h xs → IsPath (next_at new) (prev_at new) a (xs ++ b ∷ []) h
   path_joined a [] p d out apart = (ap (next_at new) (sym p.1) ∙ c.last_next, c.new_prev ∙ p.1, (c.new_next, c.hub_prev))
   path_joined a (x ∷ xs) p d out apart = (
     c.other_next a d (λ e. apart.0 (sym (k.forth h low) ∙ ap (next_at old) (sym e) ∙ p.0)) ∙ p.0,

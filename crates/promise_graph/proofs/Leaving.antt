@@ -43,7 +43,7 @@ module _ (old new : Rings) (b slots : ℕ) (c : IsCut old new b) (k : ArePaired 
   prev_over : (a y : ℕ) → y ≢ b → prev_at old b ≡ a → next_at old b ≡ y → prev_at new y ≡ a
   prev_over a y dy e f = ap (prev_at new) (sym f) ∙ c.closed_prev (λ q. dy (sym f ∙ q)) ∙ e
 
-  path_dropped : (a z : ℕ) (xs : List ℕ) → IsPath (next_at old) (prev_at old) a xs z → a ≢ b → z ≢ b → AreApart z xs → IsPath (next_at new) (prev_at new) a (dropped b xs) z
+  pub path_dropped : (a z : ℕ) (xs : List ℕ) → IsPath (next_at old) (prev_at old) a xs z → a ≢ b → z ≢ b → AreApart z xs → IsPath (next_at new) (prev_at new) a (dropped b xs) z
   path_dropped a z [] p da dz apart = (next_same a z da dz p.0, prev_same z a dz da p.1)
   path_dropped a z (x ∷ []) p da dz apart = elim (cases_eq x b) [
     | inl e ↦ subst (λ (l : List ℕ). IsPath (next_at new) (prev_at new) a l z) (sym (drop_here b x [] e)) (next_over a z da (ap (prev_at old) (sym e) ∙ p.1) (ap (next_at old) (sym e) ∙ p.2.0), prev_over a z dz (ap (prev_at old) (sym e) ∙ p.1) (ap (next_at old) (sym e) ∙ p.2.0))
@@ -63,12 +63,12 @@ apart_case : (t : Bool) (b h x : ℕ) (xs : List ℕ) → h ≢ x → IsOut x (d
 apart_case true b h x xs d out apart = (d, out, apart)
 apart_case false b h x xs d out apart = apart
 
-apart_dropped : (b h : ℕ) (xs : List ℕ) → AreApart h xs → AreApart h (dropped b xs)
+pub apart_dropped : (b h : ℕ) (xs : List ℕ) → AreApart h xs → AreApart h (dropped b xs)
 apart_dropped b h [] a = tt
 apart_dropped b h (x ∷ xs) a = apart_case (not (x == b)) b h x xs a.0 (out_dropped b x xs a.1) (apart_dropped b h xs a.2)
 
 -- numbers go as their slots
-map_dropped : (f : ℕ → ℕ) (b n : ℕ) (xs : List ℕ) → AllByRecursion (λ x. (f x == n) ≡ (x == b)) xs → dropped n (map f xs) ≡ map f (dropped b xs)
+pub map_dropped : (f : ℕ → ℕ) (b n : ℕ) (xs : List ℕ) → AllByRecursion (λ x. (f x == n) ≡ (x == b)) xs → dropped n (map f xs) ≡ map f (dropped b xs)
 map_dropped f b n [] h = refl
 map_dropped f b n (x ∷ xs) h = ap (λ (t : Bool). cond (not t) (f x ∷ dropped n (map f xs)) (dropped n (map f xs))) h.0 ∙ drop_case (x == b) (map_dropped f b n xs h.1)
   where

@@ -18,3 +18,4 @@ pub mod Adding
 pub mod Leaving
 pub mod Branches
 pub mod Joining
+pub mod Tasks

@@ -1,5 +1,5 @@
 -- The marks of a new graph.
-use Rattle.std.specs.Prelude.{◌≡◌, ◌<◌, ℕ, ◌*◌, List, [], length, replicate, None, slice_index_or, vec_capacity}
+use Rattle.std.specs.Prelude.{◌≡◌, ◌<◌, ℕ, ◌+◌, ◌*◌, List, [], length, replicate, None, slice_index_or, vec_capacity}
 use Rattle.promise_graph.specs.declared.fields.Marks.{Marks}
 use Rattle.promise_graph.specs.Kept.{nobody}
 
@@ -14,6 +14,8 @@ pub record AreNew (m : Marks) (count : ℕ) : Type 0 where
   pub owners_are : m.owners.items ≡ replicate count nobody
   pub nexts_are : AreSlots m.rings.nexts.items count
   pub prevs_are : AreSlots m.rings.prevs.items count
+  pub nexts_tasks : AreSlots m.tasks.nexts.items (count + 1)
+  pub prevs_tasks : AreSlots m.tasks.prevs.items (count + 1)
   pub index_is : m.index.items ≡ []
   pub room : 2 * count < vec_capacity m.index
   pub firing_is : m.firing ≡ None

@@ -16,6 +16,7 @@ use Rattle.promise_graph.specs.declared.fields.Rings.{Rings}
 use Rattle.promise_graph.specs.Slots.{number_at, IsAbsent}
 use Rattle.promise_graph.specs.Rings.{next_at, prev_at, IsRing, AreApart}
 use Rattle.promise_graph.specs.Kept.{form_parts, hub_of, taker_at, IsArmable}
+use Rattle.promise_graph.specs.Tasks.{HasTasks}
 
 -- ---- numbers in place of slots
 
@@ -88,6 +89,7 @@ pub record IsSeen (at : ℕ → Option Node) (q : Events) (sp : List Spot → Ty
   pub slots_are : w.limits.slots ≡ m.slots
   pub firing_is : w.firing ≡ link_number m.firing
   pub awaited_is : awaited_root w.awaited ≡ link_number m.awaited
+  pub tasks : HasTasks m.numbers.items m.tasks m.slots m.next w.detached
 
 -- slots, queue and marks stand for this world, whatever its names are
 pub record Stands (at : ℕ → Option Node) (q : Events) (sp : List Spot → Type 0) (m : Marks) (w : World) : Type 0 where
@@ -105,6 +107,7 @@ stands_named at q sp m w v same st = subst (λ (u : World). Stands at q sp m u) 
     slots_are = st.seen.slots_are;
     firing_is = st.seen.firing_is;
     awaited_is = st.seen.awaited_is;
+    tasks = st.seen.tasks;
   };
   owned = st.owned;
 })

@@ -18,6 +18,9 @@ pub struct Marks {
     /// By slot: the node that took this one as its tree, with number 0 where none did.
     pub owners: Vec<Link>,
     pub rings: Rings,
+    /// The loop's own set is one ring, in which the place behind the last slot stands before the oldest task and behind
+    /// the newest. A slot that is in no ring has itself on both sides.
+    pub tasks: Rings,
     /// By rising number, with room for twice the slots.
     pub index: Vec<Entry>,
     pub firing: Option<Link>,

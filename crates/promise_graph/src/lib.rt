@@ -12,6 +12,7 @@ mod graph;
 mod hubs;
 mod index;
 mod making;
+mod own_set;
 mod owners;
 mod parts;
 mod putting;

@@ -83,14 +83,19 @@ pub(crate) fn new_marks(alloc: Global, count: u32) -> Result<Marks, NoMemory>
         Ok(owners) => owners,
         Err(none) => return Err(none),
     };
-    let rings = match rings(alloc, count) {
-        Ok(rings) => rings,
+    let branches = match rings(alloc, count) {
+        Ok(branches) => branches,
+        Err(none) => return Err(none),
+    };
+    let tasks = match rings(alloc, count + 1) {
+        Ok(tasks) => tasks,
         Err(none) => return Err(none),
     };
     Ok(Marks {
         numbers,
         owners,
-        rings,
+        rings: branches,
+        tasks,
         index,
         firing: None,
         awaited: None,

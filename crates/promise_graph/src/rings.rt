@@ -34,6 +34,14 @@ pub(crate) fn join(rings: &mut Rings, slot: u32, hub: u32)
     rings.prevs[hub as usize] = slot;
 }
 
+// The slot before this one.
+pub(crate) fn in_front(rings: &Rings, slot: u32) -> u32
+    requires { slot < length rings.now.prevs.items }
+    ensures { result ≡ prev_at rings.now slot }
+{
+    rings.prevs[slot as usize]
+}
+
 // The slot behind this one.
 pub(crate) fn behind(rings: &Rings, slot: u32) -> u32
     requires { slot < length rings.now.nexts.items }

@@ -1,9 +1,15 @@
 -- What a keeper of names says of what names hold.
-use Rattle.std.specs.Prelude.{◌≡◌, ℕ, ◌<◌, List, Option, None, Some, Bool, false}
+use Rattle.std.specs.Prelude.{◌≡◌, ℕ, ◌<◌, List, [], ◌∷◌, ◌++◌, map, Option, None, Some, Bool, true, false}
+use Rattle.kj_base.specs.declared.numbers.Name.{Name}
 use Rattle.kj_base.specs.Commands.{step_of}
-use Rattle.kj_model.specs.World.{World, Held, Promise, CellOf, AskCell, HubOf, Group, Canceler, RequestOf}
+use Rattle.kj_model.specs.Nodes.{renamed}
+use Rattle.kj_model.specs.Fire.{named_renamed}
+use Rattle.kj_model.specs.Free.{abandoned_as, ask_of, without_wrap}
+use Rattle.kj_model.specs.World.{World, Named, Awaited, Held, Promise, CellOf, AskCell, HubOf, Group, Canceler, RequestOf}
 use Rattle.promise_nodes.specs.Shown.{link_number}
 use Rattle.promise_names.specs.declared.names.Held.{Held as HeldCase}
+use Rattle.promise_names.specs.declared.names.Leaving.{Leaving}
+use Rattle.promise_names.specs.declared.names.Leaving.TheVariants.{Nothing, Cell as CellLeaves, Wrap as WrapLeaves}
 use Rattle.promise_names.specs.declared.names.Held.TheVariants.{Promise as PromiseCase, CellOf as CellCase, AskCell as AskCase, HubOf as HubCase, Group as GroupCase, Canceler as CancelerCase, RequestOf as RequestCase}
 
 -- what each variant is; a set has these tasks, and a canceler these Wraps
@@ -39,16 +45,63 @@ abbrev pub root_of : Option HeldCase → Option ℕ
 root_of (Some (PromiseCase root)) = Some root.number.0
 root_of other = None
 
--- all but nodes, queue, spots, the event that fires and the tree that is awaited is the same
-abbrev pub SameNames : World → World → Type 0
-SameNames w v = v ≡ record w { queue = v.queue; nodes = v.nodes; firing = v.firing; next = v.next; spots = v.spots; next_key = v.next_key }
+-- no two names promise one tree
+abbrev pub AreApart : (ℕ → Option ℕ) → Type 0
+AreApart roots = (name other root : ℕ) → roots name ≡ Some root → roots other ≡ Some root → name ≡ other
 
 -- no tree that a name promises was taken, each was built, and no two names promise one
 pub record AreFree (roots : ℕ → Option ℕ) (taken : ℕ → Bool) (next : ℕ) : Type 0 where
   pub untaken : (name root : ℕ) → roots name ≡ Some root → taken root ≡ false
   pub built : (name root : ℕ) → roots name ≡ Some root → root < next
-  pub apart : (name other root : ℕ) → roots name ≡ Some root → roots other ≡ Some root → name ≡ other
+  pub apart : AreApart roots
 
 -- this name has this root now, and the others have theirs
 abbrev pub HasRoot : (ℕ → Option ℕ) → (ℕ → Option ℕ) → ℕ → Option ℕ → Type 0
 HasRoot old new name root = (new name ≡ root) × ((other : ℕ) → (other ≡ name → ⊥) → new other ≡ old other)
+
+-- not the cell of an ask
+abbrev pub IsNoAsk : HeldCase → Type 0
+IsNoAsk (AskCase cell is_taken) = ⊥
+IsNoAsk other = Unit {0}
+
+-- the number of a name that may be absent
+abbrev pub name_number : Option Name → Option ℕ
+name_number None = None
+name_number (Some name) = Some name.0
+
+-- the name of the tree that is awaited
+abbrev pub awaited_name : Option Awaited → Option ℕ
+awaited_name None = None
+awaited_name (Some a) = Some a.name
+
+-- the lowest name
+abbrev pub first_name : List Named → Option ℕ
+first_name [] = None
+first_name (x ∷ xs) = Some x.name
+
+-- a root, where a tree was replaced
+abbrev pub root_renamed : ℕ → ℕ → Option ℕ → Option ℕ
+root_renamed old new None = None
+root_renamed old new (Some root) = Some (renamed old new root)
+
+-- the names, where a tree was replaced
+abbrev pub roots_replaced : ℕ → ℕ → World → World
+roots_replaced old new w = record w { names = map (named_renamed old new) w.names }
+
+-- one more tree is left over
+abbrev pub with_left_over : ℕ → World → World
+with_left_over n w = record w { left_over = w.left_over ++ n ∷ [] }
+
+-- a tree is left over, before the others
+abbrev pub with_lost : ℕ → World → World
+with_lost n w = record w { left_over = n ∷ w.left_over }
+
+-- the loop has stopped
+abbrev pub stopped_world : World → World
+stopped_world w = record w { stopped = true }
+
+-- a world whose names were told what node n leaves
+abbrev pub left_world : ℕ → Leaving → World → World
+left_world n Nothing w = w
+left_world n CellLeaves w = abandoned_as (ask_of n w.names) w
+left_world n (WrapLeaves canceler) w = without_wrap n canceler.0 w

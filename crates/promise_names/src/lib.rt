@@ -3,4 +3,4 @@
 
 mod names;
 
-pub use names::{Held, Names};
+pub use names::{Held, Leaving, Names};

@@ -1,10 +1,13 @@
 //! A keeper of names.
-ghost use Rattle.std.specs.Prelude.{◌≡◌, ◌+◌, ◌<◌, ◌≤◌, ◌++◌, ◌∷◌, [], ℕ, List, Option, None, Some, Bool, true, false, IsSome, length, ◌⊎◌};
-ghost use Rattle.kj_model.specs.World.{World, held_at};
+ghost use Rattle.std.specs.Prelude.{◌≡◌, ◌+◌, ◌<◌, ◌≤◌, ◌++◌, ◌∷◌, [], ℕ, List, Option, None, Some, Bool, true, false, IsSome, length, slice_get};
+ghost use Rattle.kj_model.specs.World.{World, Awaited, held_at};
+ghost use Rattle.kj_model.specs.Nodes.{dropped};
 ghost use Rattle.kj_model.specs.Changes.{named, unnamed};
-ghost use Rattle.kj_model.specs.Effects.{with_detached};
+ghost use Rattle.kj_model.specs.Fire.{group_of, without_left_over};
 ghost use Rattle.promise_nodes.specs.Shown.{link_number};
-ghost use Rattle.promise_names.specs.Held.{held_shown, SeesHeld, IsListless, SameNames, HasRoot, root_of};
+ghost use Rattle.promise_nodes.specs.Kept.{SameNames};
+ghost use Rattle.promise_names.specs.Once.{AreOnce};
+ghost use Rattle.promise_names.specs.Held.{held_shown, SeesHeld, IsListless, IsNoAsk, HasRoot, root_of, name_number, awaited_name, first_name, root_renamed, roots_replaced, with_left_over, with_lost, stopped_world, left_world, AreApart};
 ghost use Rattle.promise_names.specs.declared.names.Held.{Held};
 
 use kj_base::{Link, Name, StepId};
@@ -31,6 +34,16 @@ pub enum Held {
     RequestOf(Option<Link>),
 }
 
+/// What a node that goes leaves to whoever keeps the names.
+#[derive(Clone, Copy, Debug, PartialEq, Eq)]
+pub enum Leaving {
+    Nothing,
+    /// A cell that waits.
+    Cell,
+    /// A wrapped promise, and its canceler.
+    Wrap(Name),
+}
+
 /// Keeps the names of a loop with what they hold, and the lists of a world that aren't of nodes; it knows no nodes.
 /// No call takes memory.
 pub trait Names {
@@ -46,11 +59,8 @@ pub trait Names {
     /// How many names there may be; no call changes it.
     ghost limit: { Self → ℕ };
 
-    /// How many tasks the loop's own set has.
-    ghost task_count: { Self → ℕ };
-
-    /// How many there may be; no call changes it.
-    ghost task_limit: { Self → ℕ };
+    /// The trees that are left over, in order; two at most.
+    ghost over: { Self → List ℕ };
 
     /// What a name holds; none where it isn't there.
     fn get(&self, name: Name) -> Option<Held>
@@ -62,15 +72,23 @@ pub trait Names {
         ensures count { result ≡ count self.now }
         ensures names { (w : World) → stands self.now w → length w.names ≡ count self.now };
 
+    /// How many names there may be.
+    fn limit(&self) -> u32
+        ensures { result ≡ limit self.now };
+
+    /// The lowest name.
+    fn first(&self) -> Option<Name>
+        ensures { (w : World) → stands self.now w → name_number result ≡ first_name w.names };
+
     /// A name holds this now: a name that is there, or for which there is room. A set has no tasks, and a canceler no Wraps.
     fn set(&mut self, name: Name, held: Held)
         requires room { count self.old < limit self.old }
+        requires kind { IsNoAsk held }
         ensures stands { (w : World) → stands self.old w → IsListless (held_at name.0 w.names) → stands self.new (named name.0 (held_shown [] held) w) }
         ensures root { HasRoot (roots self.old) (roots self.new) name.0 (root_of (Some held)) }
         ensures few { count self.new ≤ count self.old + 1 }
-        ensures tasks { task_count self.new ≡ task_count self.old }
         ensures limit { limit self.new ≡ limit self.old }
-        ensures task_limit { task_limit self.new ≡ task_limit self.old };
+        ensures over { over self.new ≡ over self.old };
 
     /// A name goes.
     fn remove(&mut self, name: Name)
@@ -78,20 +96,92 @@ pub trait Names {
         ensures root { HasRoot (roots self.old) (roots self.new) name.0 None }
         ensures gone { IsSome (roots self.old name.0) → count self.new + 1 ≡ count self.old }
         ensures few { count self.new ≤ count self.old }
-        ensures tasks { task_count self.new ≡ task_count self.old }
         ensures limit { limit self.new ≡ limit self.old }
-        ensures task_limit { task_limit self.new ≡ task_limit self.old };
+        ensures over { over self.new ≡ over self.old };
 
-    /// One more task of the loop's own set.
-    fn detach(&mut self, task: Link)
-        requires room { task_count self.old < task_limit self.old }
-        ensures stands { (w : World) → stands self.old w → stands self.new (with_detached task.number.0 w) }
+    /// The promise of a tree, where a name has it, has another tree now.
+    fn rename(&mut self, old: Link, new: Link)
+        requires apart { AreApart (roots self.old) }
+        ensures stands { (w : World) → stands self.old w → stands self.new (roots_replaced old.number.0 new.number.0 w) }
+        ensures roots { (name : ℕ) → roots self.new name ≡ root_renamed old.number.0 new.number.0 (roots self.old name) }
+        ensures count { count self.new ≡ count self.old }
+        ensures limit { limit self.new ≡ limit self.old }
+        ensures over { over self.new ≡ over self.old };
+
+    /// A node goes: a Wrap leaves its canceler, and the cell of an ask that waits is abandoned. Its slot is only a hint.
+    fn left(&mut self, node: Link, leaving: Leaving)
+        ensures stands { (w : World) → stands self.old w → stands self.new (left_world node.number.0 leaving w) }
         ensures roots { (name : ℕ) → roots self.new name ≡ roots self.old name }
         ensures count { count self.new ≡ count self.old }
-        ensures tasks { task_count self.new ≡ task_count self.old + 1 }
         ensures limit { limit self.new ≡ limit self.old }
-        ensures task_limit { task_limit self.new ≡ task_limit self.old };
+        ensures over { over self.new ≡ over self.old };
+
+    /// Whether the loop has stopped.
+    fn is_stopped(&self) -> bool
+        ensures { (w : World) → stands self.now w → result ≡ w.stopped };
+
+    /// The loop has stopped.
+    fn stop(&mut self)
+        ensures stands { (w : World) → stands self.old w → stands self.new (stopped_world w) }
+        ensures roots { (name : ℕ) → roots self.new name ≡ roots self.old name }
+        ensures count { count self.new ≡ count self.old }
+        ensures limit { limit self.new ≡ limit self.old }
+        ensures over { over self.new ≡ over self.old };
+
+    /// The name of the promise that a wait awaits.
+    fn awaited(&self) -> Option<Name>
+        ensures { (w : World) → stands self.now w → name_number result ≡ awaited_name w.awaited };
+
+    /// A wait awaits the promise of this name, or none.
+    fn set_awaited(&mut self, name: Option<Name>)
+        ensures stands { (w : World) (a : Option Awaited) → stands self.old w → awaited_name a ≡ name_number name → stands self.new (record w { awaited = a }) }
+        ensures roots { (name : ℕ) → roots self.new name ≡ roots self.old name }
+        ensures count { count self.new ≡ count self.old }
+        ensures limit { limit self.new ≡ limit self.old }
+        ensures over { over self.new ≡ over self.old };
+
+    /// One of the trees that are left over.
+    fn left_over(&self, place: usize) -> Option<Link>
+        ensures { link_number result ≡ slice_get (over self.now) place };
+
+    /// A tree is left over, behind the others.
+    fn leave_over(&mut self, tree: Link)
+        requires room { length (over self.old) < 2 }
+        ensures stands { (w : World) → stands self.old w → stands self.new (with_left_over tree.number.0 w) }
+        ensures roots { (name : ℕ) → roots self.new name ≡ roots self.old name }
+        ensures count { count self.new ≡ count self.old }
+        ensures limit { limit self.new ≡ limit self.old }
+        ensures over { over self.new ≡ over self.old ++ tree.number.0 ∷ [] };
+
+    /// A tree is left over, before the others.
+    fn lose(&mut self, tree: Link)
+        requires room { length (over self.old) < 2 }
+        ensures stands { (w : World) → stands self.old w → stands self.new (with_lost tree.number.0 w) }
+        ensures roots { (name : ℕ) → roots self.new name ≡ roots self.old name }
+        ensures count { count self.new ≡ count self.old }
+        ensures limit { limit self.new ≡ limit self.old }
+        ensures over { over self.new ≡ tree.number.0 ∷ over self.old };
+
+    /// A tree is no longer left over.
+    fn take_over(&mut self, tree: Link)
+        ensures stands { (w : World) → stands self.old w → stands self.new (without_left_over tree.number.0 w) }
+        ensures roots { (name : ℕ) → roots self.new name ≡ roots self.old name }
+        ensures count { count self.new ≡ count self.old }
+        ensures limit { limit self.new ≡ limit self.old }
+        ensures over { over self.new ≡ dropped tree.number.0 (over self.old) };
 
     /// Nodes and the queue don't matter.
     ghost nodes_free: { (names : Self) (w v : World) → SameNames w v → stands names w → stands names v };
+
+    /// The trees that are left over.
+    ghost over_is: { (names : Self) (w : World) → stands names w → w.left_over ≡ over names };
+
+    /// No name stands twice.
+    ghost once: { (names : Self) (w : World) → stands names w → AreOnce w.names };
+
+    /// How many names there may be in each world that it stands for.
+    ghost limit_is: { (names : Self) (w : World) → stands names w → w.limits.names ≡ limit names };
+
+    /// No set has a task.
+    ghost no_tasks: { (names : Self) (w : World) (n : ℕ) → stands names w → group_of n w.names ≡ None };
 }

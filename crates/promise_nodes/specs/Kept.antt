@@ -1,23 +1,39 @@
 -- What the calls of a keeper of nodes change and keep.
-use Rattle.std.specs.Prelude.{◌≡◌, ◌≢◌, ℕ, ◌<◌, List, [], ◌∷◌, Option, None, Some, Bool, true, false, IsSome, map, zero, suc, nat_lt, ◌-◌, if◌then◌else◌}
+use Rattle.std.specs.Prelude.{◌≡◌, ◌≢◌, ℕ, ◌<◌, List, [], ◌∷◌, Option, None, Some, Bool, true, false, IsSome, is_some, find, reverse, map, zero, suc, nat_lt, ◌-◌, if◌then◌else◌}
 use Rattle.std.specs.List.{AllByRecursion}
 use Rattle.kj_base.specs.declared.nodes.Form.{Form as FormCase}
 use Rattle.kj_base.specs.declared.nodes.Form.TheVariants.{Branch as BranchCase}
 use Rattle.kj_base.specs.Places.{Row, row}
 use Rattle.kj_model.specs.World.{World, Awaited}
-use Rattle.kj_model.specs.Nodes.{Form, Hub, Branch, Race, Join, Entry, form_at, owner_of, parts_of, parts_at, is_in, with_tree_renamed}
+use Rattle.kj_model.specs.Nodes.{Form, Hub, Branch, Race, Join, Entry, form_at, owner_of, parts_of, parts_at, is_in, dropped, with_tree_renamed}
 use Rattle.kj_model.specs.Fire.{branches_of}
 use Rattle.kj_model.specs.Changes.{put}
 use Rattle.promise_nodes.specs.Shown.{shown, link_number}
 use Rattle.promise_nodes.specs.declared.nodes.NodeRow.{NodeRow}
 
--- all but names, lists and whether it is stopped is the same
+-- all but names, what is left over, asks, and whether it is stopped is the same
 abbrev pub SameNodes : World → World → Type 0
-SameNodes w v = v ≡ record w { names = v.names; detached = v.detached; left_over = v.left_over; asks = v.asks; ended = v.ended; abandoned = v.abandoned; stopped = v.stopped }
+SameNodes w v = v ≡ record w { names = v.names; left_over = v.left_over; asks = v.asks; ended = v.ended; abandoned = v.abandoned; stopped = v.stopped }
+
+-- all but the nodes, the queue, the loop's own set and the event that fires is the same
+abbrev pub SameNames : World → World → Type 0
+SameNames w v = v ≡ record w { queue = v.queue; nodes = v.nodes; detached = v.detached; firing = v.firing; next = v.next; spots = v.spots; next_key = v.next_key }
 
 -- whether a node lives
 abbrev pub IsLive : World → ℕ → Type 0
 IsLive w n = IsSome (form_at n w.nodes)
+
+-- whether a node lives
+abbrev pub is_live : World → ℕ → Bool
+is_live w n = is_some (form_at n w.nodes)
+
+-- the newest live task of the loop's own set
+abbrev pub newest_task : World → Option ℕ
+newest_task w = find (is_live w) (reverse w.detached)
+
+-- a node is no task of the loop's own set
+abbrev pub without_detached : ℕ → World → World
+without_detached n w = record w { detached = dropped n w.detached }
 
 -- the wait, or a live node
 abbrev pub IsEvent : World → ℕ → Type 0

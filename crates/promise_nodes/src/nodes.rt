@@ -3,15 +3,15 @@ ghost use Rattle.std.specs.Prelude.{◌≡◌, ◌≢◌, ◌+◌, ◌<◌, ◌�
 ghost use Rattle.kj_base.specs.Places.{Spot, Row as RowSeen, row};
 ghost use Rattle.kj_base.specs.Queue.{head_of, first_of};
 ghost use Rattle.kj_model.specs.World.{World, Awaited};
-ghost use Rattle.kj_model.specs.Nodes.{form_at, owner_of, parts_of, Branch};
+ghost use Rattle.kj_model.specs.Nodes.{form_at, owner_of, parts_of, is_in, Branch};
 ghost use Rattle.kj_model.specs.Places.{built};
 ghost use Rattle.kj_model.specs.Fire.{branches_of};
 ghost use Rattle.kj_model.specs.Free.{without_branch};
 ghost use Rattle.kj_model.specs.Changes.{gone_world, arm_listener};
-ghost use Rattle.kj_model.specs.Effects.{with_branch_in, disarmed_node};
+ghost use Rattle.kj_model.specs.Effects.{with_branch_in, with_detached, disarmed_node};
 ghost use Rattle.kj_model.specs.Calls.{rewound_world, taken_world};
 ghost use Rattle.promise_nodes.specs.Shown.{shown, link_number, Sees, SeesOwner, way_of};
-ghost use Rattle.promise_nodes.specs.Kept.{SameNodes, IsLive, IsEvent, IsBranch, IsPart, IsReplaceable, KeepsKind, is_unreferenced, awaited_root, rows_left, OnlyFalls, OnlyRises, RisesIn, IsPlain, ShowsPlain, AreRoots, AreBuilt, AddsNone, AreRowsBuilt, put_form, rows_seen, tree_replaced};
+ghost use Rattle.promise_nodes.specs.Kept.{SameNodes, IsLive, newest_task, without_detached, IsEvent, IsBranch, IsPart, IsReplaceable, KeepsKind, is_unreferenced, awaited_root, rows_left, OnlyFalls, OnlyRises, RisesIn, IsPlain, ShowsPlain, AreRoots, AreBuilt, AddsNone, AreRowsBuilt, put_form, rows_seen, tree_replaced};
 
 use kj_base::{Form, Link};
 
@@ -98,12 +98,14 @@ pub trait Nodes {
         requires roots { AreRoots (is_taken self.old) (parts_of (shown [] form)) }
         requires built { AreBuilt (next self.old) (parts_of (shown [] form)) }
         requires fits { IsTrue (room self.old (row (link_number before) 1 ∷ [])) }
-        requires numbers { next self.old < 2 ^ 63 + 8 }
+        requires numbers { next self.old < 2 ^ 63 + 9 }
         ensures number { result.number.0 ≡ next self.old }
         ensures next { next self.new ≡ next self.old + 1 }
         ensures rest { (more : List RowSeen) (count : ℕ) → 0 < count → AreRowsBuilt (next self.old) more → IsTrue (room self.old (row (link_number before) count ∷ more)) → IsTrue (room self.new (rows_left (next self.old) count more)) }
         ensures stands { (w : World) → stands self.old w → stands self.new (built (link_number before) (shown [] form) w) }
+        ensures anew { (w : World) → stands self.old w → form_at (next self.old) w.nodes ≡ None }
         ensures root { is_taken self.new result.number.0 ≡ false }
+        ensures unlisted { is_listed self.new result.number.0 ≡ false }
         ensures taken { RisesIn (parts_of (shown [] form)) (is_taken self.old) (is_taken self.new) }
         ensures listed { OnlyFalls (is_listed self.old) (is_listed self.new) }
         ensures plain { OnlyRises (is_plain self.old) (is_plain self.new) }
@@ -173,6 +175,28 @@ pub trait Nodes {
         ensures next { next self.new ≡ next self.old }
         ensures slots { slots self.new ≡ slots self.old };
 
+    /// A live node is the newest task of the loop's own set. A task that goes leaves that set.
+    fn enlist(&mut self, task: Link)
+        ensures stands { (w : World) → stands self.old w → IsLive w task.number.0 → is_in task.number.0 w.detached ≡ false → stands self.new (with_detached task.number.0 w) }
+        ensures taken { OnlyFalls (is_taken self.old) (is_taken self.new) }
+        ensures listed { OnlyFalls (is_listed self.old) (is_listed self.new) }
+        ensures plain { OnlyRises (is_plain self.old) (is_plain self.new) }
+        ensures next { next self.new ≡ next self.old }
+        ensures slots { slots self.new ≡ slots self.old };
+
+    /// A node leaves the loop's own set, if it is there.
+    fn delist(&mut self, task: Link)
+        ensures stands { (w : World) → stands self.old w → stands self.new (without_detached task.number.0 w) }
+        ensures taken { OnlyFalls (is_taken self.old) (is_taken self.new) }
+        ensures listed { OnlyFalls (is_listed self.old) (is_listed self.new) }
+        ensures plain { OnlyRises (is_plain self.old) (is_plain self.new) }
+        ensures next { next self.new ≡ next self.old }
+        ensures slots { slots self.new ≡ slots self.old };
+
+    /// The newest live task of the loop's own set.
+    fn newest_task(&self) -> Option<Link>
+        ensures { (w : World) → stands self.now w → link_number result ≡ newest_task w };
+
     /// The event of a live node, or of the wait, is armed.
     fn arm(&mut self, way: Way, node: Link)
         ensures stands { (w : World) → stands self.old w → IsEvent w node.number.0 → stands self.new (arm_listener (way_of way) (Some node.number.0) w) }
@@ -233,6 +257,18 @@ pub trait Nodes {
 
     /// A plain number is of no hub and no branch.
     ghost plain_is: { (nodes : Self) (w : World) (n : ℕ) → stands nodes w → is_plain nodes n ≡ true → IsPlain (form_at n w.nodes) };
+
+    /// The tasks of the loop's own set were built.
+    ghost tasks_built: { (nodes : Self) (w : World) (n : ℕ) → stands nodes w → is_in n w.detached ≡ true → n < next nodes };
+
+    /// A hub has no more branches than there are slots.
+    ghost few_branches: { (nodes : Self) (w : World) (hub : ℕ) → stands nodes w → length (branches_of (form_at hub w.nodes)) ≤ slots nodes };
+
+    /// Rows may be left out.
+    ghost left_out: { (nodes : Self) (front : List RowSeen) (left : RowSeen) (back : List RowSeen) → IsTrue (room nodes (front ++ left ∷ back)) → IsTrue (room nodes (front ++ back)) };
+
+    /// A row of two may become a row of one.
+    ghost one_of_two: { (nodes : Self) (front : List RowSeen) (before : Option ℕ) (back : List RowSeen) → IsTrue (room nodes (front ++ row before 2 ∷ back)) → IsTrue (room nodes (front ++ row before 1 ∷ back)) };
 
     /// The next number of each world that it stands for.
     ghost next_is: { (nodes : Self) (w : World) → stands nodes w → w.next ≡ next nodes };

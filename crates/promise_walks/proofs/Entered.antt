@@ -7,8 +7,8 @@ use Rattle.kj_model.specs.Free.{Guard, free_to, free_form, each_freed, unlinked,
 use Rattle.kj_base.specs.declared.nodes.Link.{Link}
 use Rattle.promise_nodes.specs.Shown.{link_number, run_from}
 use Rattle.promise_nodes.specs.Kept.{is_unreferenced}
-use Rattle.promise_walks.specs.declared.shape.Leaving.{Leaving}
-use Rattle.promise_walks.specs.declared.shape.Leaving.TheVariants.{Nothing}
+use Rattle.promise_names.specs.declared.names.Leaving.{Leaving}
+use Rattle.promise_names.specs.declared.names.Leaving.TheVariants.{Nothing}
 use Rattle.promise_walks.specs.declared.shape.Shape.{Shape}
 use Rattle.promise_walks.specs.Shapes.{numbers_of, SeesShape, leaving_of, hub_of}
 use Rattle.promise_walks.specs.Walks.{left_as}

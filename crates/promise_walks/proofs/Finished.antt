@@ -5,7 +5,7 @@ use Rattle.std.proofs.lemmas.List.{length-append}
 use Rattle.kj_model.specs.Changes.{gone}
 use Rattle.kj_model.specs.Free.{Guard, free_to, each_freed}
 use Rattle.promise_nodes.specs.Shown.{next_number, run_from}
-use Rattle.promise_walks.specs.declared.shape.Leaving.{Leaving}
+use Rattle.promise_names.specs.declared.names.Leaving.{Leaving}
 use Rattle.promise_walks.specs.declared.freeing.Frame.{Frame}
 use Rattle.promise_walks.specs.Shapes.{numbers_of}
 use Rattle.promise_walks.specs.Walks.{left_as}

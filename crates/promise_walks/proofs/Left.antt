@@ -4,10 +4,10 @@ use Rattle.kj_model.specs.Nodes.{Form, Ready, Later, Last, Cell, Branch, Then, C
 use Rattle.kj_model.specs.World.{World, Named, Held, Promise, CellOf, AskCell, HubOf, Group, Canceler, RequestOf, held_at}
 use Rattle.kj_model.specs.Changes.{gone_world}
 use Rattle.kj_model.specs.Free.{without_branch, abandoned_as, ask_of, without_wrap_in, without_branch_in}
-use Rattle.promise_nodes.specs.Kept.{SameNodes}
-use Rattle.promise_walks.specs.declared.shape.Leaving.{Leaving}
-use Rattle.promise_walks.specs.declared.shape.Leaving.TheVariants.{Nothing, Cell as CellLeaves, Wrap as WrapLeaves}
-use Rattle.promise_walks.specs.Walks.{SameNames, left_world}
+use Rattle.promise_nodes.specs.Kept.{SameNodes, SameNames}
+use Rattle.promise_names.specs.declared.names.Leaving.{Leaving}
+use Rattle.promise_names.specs.declared.names.Leaving.TheVariants.{Nothing, Cell as CellLeaves, Wrap as WrapLeaves}
+use Rattle.promise_names.specs.Held.{left_world}
 
 abandoned_same : (o : Option Named) (w : World) → SameNodes w (abandoned_as o w)
 abandoned_same None w = refl

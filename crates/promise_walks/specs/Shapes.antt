@@ -3,8 +3,8 @@ use Rattle.std.specs.Prelude.{◌≡◌, ℕ, List, Option, None, Some, IsSome}
 use Rattle.kj_model.specs.Nodes.{Form, Ready, Later, Last, Cell, Branch, Then, Chain, Eager, Wrap, Hub, Side, Race, Join, Task, Request, parts_of}
 use Rattle.promise_nodes.specs.Shown.{link_number, run_from}
 use Rattle.promise_walks.specs.declared.shape.Parts.{Parts}
-use Rattle.promise_walks.specs.declared.shape.Leaving.{Leaving}
-use Rattle.promise_walks.specs.declared.shape.Leaving.TheVariants.{Nothing, Cell as CellLeaves, Wrap as WrapLeaves}
+use Rattle.promise_names.specs.declared.names.Leaving.{Leaving}
+use Rattle.promise_names.specs.declared.names.Leaving.TheVariants.{Nothing, Cell as CellLeaves, Wrap as WrapLeaves}
 use Rattle.promise_walks.specs.declared.shape.Shape.{Shape}
 
 -- the numbers of parts

@@ -3,27 +3,17 @@ use Rattle.std.specs.Prelude.{◌≡◌, ℕ, List, ◌++◌, Option, option_to_
 use Rattle.kj_base.specs.Record.{Item, Tells}
 use Rattle.kj_model.specs.World.{World, State}
 use Rattle.kj_model.specs.Changes.{silent}
-use Rattle.kj_model.specs.Free.{Guard, Holding, Every, abandoned_as, ask_of, without_wrap}
+use Rattle.kj_model.specs.Free.{Guard, Holding, Every}
 use Rattle.promise_nodes.specs.Shown.{link_number}
+use Rattle.promise_names.specs.declared.names.Leaving.{Leaving}
+use Rattle.promise_names.specs.Held.{left_world}
 use Rattle.promise_walks.specs.declared.guard.Guard.{Guard as GuardCase}
 use Rattle.promise_walks.specs.declared.guard.Guard.TheVariants.{Holding as HoldingCase, Every as EveryCase}
-use Rattle.promise_walks.specs.declared.shape.Leaving.{Leaving}
-use Rattle.promise_walks.specs.declared.shape.Leaving.TheVariants.{Nothing, Cell as CellLeaves, Wrap as WrapLeaves}
 
 -- the guard that each variant is
 abbrev pub guard_of : GuardCase → Guard
 guard_of (HoldingCase node) = Holding (option_to_list (link_number node))
 guard_of EveryCase = Every
-
--- all but nodes, queue, spots, the firing event and the awaited tree is the same
-abbrev pub SameNames : World → World → Type 0
-SameNames w v = v ≡ record w { queue = v.queue; nodes = v.nodes; awaited = v.awaited; firing = v.firing; next = v.next; spots = v.spots; next_key = v.next_key }
-
--- a world whose names were told what node n leaves
-abbrev pub left_world : ℕ → Leaving → World → World
-left_world n Nothing w = w
-left_world n CellLeaves w = abandoned_as (ask_of n w.names) w
-left_world n (WrapLeaves canceler) w = without_wrap n canceler.0 w
 
 -- the same, not told
 abbrev pub left_as : ℕ → Leaving → State → State

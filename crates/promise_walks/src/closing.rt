@@ -8,7 +8,8 @@ ghost use Rattle.promise_walks.specs.Values.{Gives, GivesRoot, gave, gave_given,
 
 use crate::land::{Given, Land};
 use crate::pending::Continuation;
-use kj_base::{Exception, Form, Kind, Link, NoMemory, Outcome, Stage, StepId, Steps};
+use kj_base::{Exception, Form, Kind, Link, NoMemory, Outcome, Stage, StepId};
+use promise_commands::Steps;
 
 /// The code of the exception where a step that gives values gave a promise.
 const PROMISE_GIVEN: u32 = 8;

@@ -14,7 +14,8 @@ use crate::looks::{Look, SideLook, hub_outcome, look_at, look_side, void};
 use crate::pending::{At, Continuation, Pending};
 use crate::pushing::{is_deep, put_last};
 use crate::sums::{no_sum, plus};
-use kj_base::{Link, NoMemory, Outcome, Steps};
+use kj_base::{Link, NoMemory, Outcome};
+use promise_commands::Steps;
 
 // The Side that won a race: its outcome, or its tree is evaluated first.
 fn enter_winner<L: Land>(land: &L, stack: &mut Vec<Pending>, side: Link) -> At

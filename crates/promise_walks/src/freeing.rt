@@ -1,5 +1,5 @@
 //! Freeing a tree, with hubs and branches, by a stack.
-ghost use Rattle.std.specs.Prelude.{◌≡◌, ◌<◌, ◌≤◌, ◌+◌, ◌-◌, ◌++◌, [], ◌∷◌, Some, IsSome, true, false, length, vec_len, vec_capacity};
+ghost use Rattle.std.specs.Prelude.{◌≡◌, ◌<◌, ◌≤◌, ◌+◌, ◌-◌, ◌++◌, [], ◌∷◌, ℕ, Some, IsSome, true, false, length, vec_len, vec_capacity};
 ghost use Rattle.kj_base.specs.Record.{Tells, Free};
 ghost use Rattle.kj_model.specs.World.{World};
 ghost use Rattle.kj_model.specs.Nodes.{form_at};
@@ -8,15 +8,17 @@ ghost use Rattle.kj_model.specs.Free.{free_to, is_guarded};
 ghost use Rattle.kj_model.specs.Value.{freed};
 ghost use Rattle.promise_nodes.specs.Kept.{OnlyFalls, OnlyRises};
 ghost use Rattle.promise_walks.specs.Shapes.{SeesShape};
-ghost use Rattle.promise_walks.specs.Walks.{Both, Does, Moves, guard_of, left_world};
+ghost use Rattle.promise_names.specs.Held.{left_world};
+ghost use Rattle.promise_walks.specs.Walks.{Both, Does, Moves, guard_of};
 ghost use Rattle.promise_walks.specs.Stacks.{AreUnlisted, Enters, cost, falls_count, finish, weigh};
 
 use crate::guard::Guard;
 use crate::holding::is_kept;
-use crate::leavers::Leavers;
 use crate::pushing::{is_deep, put_last};
-use crate::shape::{Leaving, Parts, Shape, shape_at};
-use kj_base::{Link, Steps};
+use crate::shape::{Parts, Shape, shape_at};
+use kj_base::Link;
+use promise_commands::Steps;
+use promise_names::{Leaving, Names};
 use promise_nodes::Nodes;
 
 /// A node whose parts go, the parts that are still there, and what it leaves then.
@@ -50,9 +52,9 @@ fn count_falling<N: Nodes>(
 }
 
 // A node is entered: a branch leaves its hub at once, and the hub goes like a part of it.
-fn enter<N: Nodes, L: Leavers>(
+fn enter<N: Nodes, M: Names>(
     nodes: &mut N,
-    _leavers: &L,
+    _names: &M,
     search: &mut Vec<Parts>,
     guard: Guard,
     node: Link,
@@ -61,7 +63,7 @@ fn enter<N: Nodes, L: Leavers>(
     requires shape { (w : World) → N.stands nodes.old w → SeesShape (Some shape) (form_at node.number.0 w.nodes) }
     requires listed { N.is_listed nodes.old node.number.0 ≡ true → IsSome shape.hub }
     requires room { N.slots nodes.old + 1 ≤ vec_capacity search.old }
-    ensures enters { Enters (Both (N.stands nodes.old) (L.names _leavers.now)) (Both (N.stands nodes.new) (L.names _leavers.now)) (guard_of guard) node.number.0 result }
+    ensures enters { Enters (Both (N.stands nodes.old) (M.stands _names.now)) (Both (N.stands nodes.new) (M.stands _names.now)) (guard_of guard) node.number.0 result }
     ensures unlisted { N.is_listed nodes.new result.node.number.0 ≡ false }
     ensures taken { OnlyFalls (N.is_taken nodes.old) (N.is_taken nodes.new) }
     ensures listed { OnlyFalls (N.is_listed nodes.old) (N.is_listed nodes.new) }
@@ -89,9 +91,9 @@ fn enter<N: Nodes, L: Leavers>(
 }
 
 // The way to a node and all below it, where it is live and not too deep.
-fn open<N: Nodes, L: Leavers>(
+fn open<N: Nodes, M: Names>(
     nodes: &mut N,
-    leavers: &L,
+    names: &M,
     stack: &mut Vec<Frame>,
     search: &mut Vec<Parts>,
     guard: Guard,
@@ -101,7 +103,7 @@ fn open<N: Nodes, L: Leavers>(
     requires bound { vec_len stack.old ≤ N.slots nodes.old + 1 }
     requires stack_room { N.slots nodes.old + 1 ≤ vec_capacity stack.old }
     requires room { N.slots nodes.old + 1 ≤ vec_capacity search.old }
-    ensures moves { Moves (Both (N.stands nodes.old) (L.names leavers.now)) (Both (N.stands nodes.new) (L.names leavers.now)) (λ s. finish (guard_of guard) (N.slots nodes.old + 1) stack.old.items (free_to (guard_of guard) (N.slots nodes.old + 1 - length stack.old.items) node.number.0 s)) (finish (guard_of guard) (N.slots nodes.old + 1) stack.new.items) [] }
+    ensures moves { Moves (Both (N.stands nodes.old) (M.stands names.now)) (Both (N.stands nodes.new) (M.stands names.now)) (λ s. finish (guard_of guard) (N.slots nodes.old + 1) stack.old.items (free_to (guard_of guard) (N.slots nodes.old + 1 - length stack.old.items) node.number.0 s)) (finish (guard_of guard) (N.slots nodes.old + 1) stack.new.items) [] }
     ensures weight { weigh (N.slots nodes.old + 1) stack.new.items < weigh (N.slots nodes.old + 1) stack.old.items + cost (N.slots nodes.old + 1 - length stack.old.items) }
     ensures unlisted { AreUnlisted (N.is_listed nodes.new) stack.new.items }
     ensures taken { OnlyFalls (N.is_taken nodes.old) (N.is_taken nodes.new) }
@@ -119,19 +121,14 @@ fn open<N: Nodes, L: Leavers>(
     let Some(shape) = shape_at(nodes, node) else {
         return;
     };
-    let frame = enter(nodes, leavers, search, guard, node, shape);
+    let frame = enter(nodes, names, search, guard, node, shape);
     put_last(stack, frame);
 }
 
 // A node goes whose parts are gone.
-fn close<N: Nodes, L: Leavers, S: Steps>(
-    nodes: &mut N,
-    leavers: &mut L,
-    frame: Frame,
-    steps: &mut S,
-)
+fn close<N: Nodes, M: Names, S: Steps>(nodes: &mut N, names: &mut M, frame: Frame, steps: &mut S)
     requires unlisted { N.is_listed nodes.old frame.node.number.0 ≡ false }
-    ensures stands { (w : World) → Both (N.stands nodes.old) (L.names leavers.old) w → Both (N.stands nodes.new) (L.names leavers.new) (gone_world frame.node.number.0 (left_world frame.node.number.0 frame.leaving w)) }
+    ensures stands { (w : World) → Both (N.stands nodes.old) (M.stands names.old) w → Both (N.stands nodes.new) (M.stands names.new) (gone_world frame.node.number.0 (left_world frame.node.number.0 frame.leaving w)) }
     ensures told { Tells (S.told steps.old) (Free frame.node.number.0 ∷ []) (S.told steps.new) }
     ensures lacks { S.lacks steps.new ≡ S.lacks steps.old }
     ensures taken { OnlyFalls (N.is_taken nodes.old) (N.is_taken nodes.new) }
@@ -139,16 +136,20 @@ fn close<N: Nodes, L: Leavers, S: Steps>(
     ensures plain { OnlyRises (N.is_plain nodes.old) (N.is_plain nodes.new) }
     ensures next { N.next nodes.new ≡ N.next nodes.old }
     ensures slots { N.slots nodes.new ≡ N.slots nodes.old }
+    ensures roots { (name : ℕ) → M.roots names.new name ≡ M.roots names.old name }
+    ensures count { M.count names.new ≡ M.count names.old }
+    ensures limit { M.limit names.new ≡ M.limit names.old }
+    ensures over { M.over names.new ≡ M.over names.old }
 {
-    leavers.left(frame.node, frame.leaving);
+    names.left(frame.node, frame.leaving);
     nodes.drop_node(frame.node);
     steps.freed(frame.node.number);
 }
 
 // One more step of the way: the next part of the node, or the node itself.
-fn go_on<N: Nodes, L: Leavers, S: Steps>(
+fn go_on<N: Nodes, M: Names, S: Steps>(
     nodes: &mut N,
-    leavers: &mut L,
+    names: &mut M,
     stack: &mut Vec<Frame>,
     search: &mut Vec<Parts>,
     guard: Guard,
@@ -159,7 +160,7 @@ fn go_on<N: Nodes, L: Leavers, S: Steps>(
     requires bound { vec_len stack.old + 1 ≤ N.slots nodes.old + 1 }
     requires stack_room { N.slots nodes.old + 1 ≤ vec_capacity stack.old }
     requires room { N.slots nodes.old + 1 ≤ vec_capacity search.old }
-    ensures does { Does (Both (N.stands nodes.old) (L.names leavers.old)) (Both (N.stands nodes.new) (L.names leavers.new)) (finish (guard_of guard) (N.slots nodes.old + 1) (stack.old.items ++ frame ∷ [])) (finish (guard_of guard) (N.slots nodes.old + 1) stack.new.items) (S.told steps.old) (S.told steps.new) }
+    ensures does { Does (Both (N.stands nodes.old) (M.stands names.old)) (Both (N.stands nodes.new) (M.stands names.new)) (finish (guard_of guard) (N.slots nodes.old + 1) (stack.old.items ++ frame ∷ [])) (finish (guard_of guard) (N.slots nodes.old + 1) stack.new.items) (S.told steps.old) (S.told steps.new) }
     ensures lacks { S.lacks steps.new ≡ S.lacks steps.old }
     ensures weight { weigh (N.slots nodes.old + 1) stack.new.items < weigh (N.slots nodes.old + 1) (stack.old.items ++ frame ∷ []) }
     ensures unlisted { AreUnlisted (N.is_listed nodes.new) stack.new.items }
@@ -168,12 +169,16 @@ fn go_on<N: Nodes, L: Leavers, S: Steps>(
     ensures plain { OnlyRises (N.is_plain nodes.old) (N.is_plain nodes.new) }
     ensures next { N.next nodes.new ≡ N.next nodes.old }
     ensures slots { N.slots nodes.new ≡ N.slots nodes.old }
+    ensures roots { (name : ℕ) → M.roots names.new name ≡ M.roots names.old name }
+    ensures count { M.count names.new ≡ M.count names.old }
+    ensures limit { M.limit names.new ≡ M.limit names.old }
+    ensures over { M.over names.new ≡ M.over names.old }
     ensures bound { vec_len stack.new ≤ N.slots nodes.old + 1 }
     ensures stack_room { vec_capacity stack.old ≤ vec_capacity stack.new }
     ensures room { vec_capacity search.old ≤ vec_capacity search.new }
 {
     if frame.parts.count == 0 {
-        close(nodes, leavers, frame, steps);
+        close(nodes, names, frame, steps);
         return;
     }
     put_last(
@@ -184,14 +189,14 @@ fn go_on<N: Nodes, L: Leavers, S: Steps>(
             leaving: frame.leaving,
         },
     );
-    open(nodes, leavers, stack, search, guard, frame.parts.next);
+    open(nodes, names, stack, search, guard, frame.parts.next);
 }
 
 /// A tree goes, dependencies first; hubs go with their last branch, but for the guard. Both stacks have room for
-/// slots + 1, and may have anything in them. The leavers are told what each node leaves, and the steps each free.
-pub fn free_tree<N: Nodes, L: Leavers, S: Steps>(
+/// slots + 1, and may have anything in them. The names are told what each node leaves, and the steps each free.
+pub fn free_tree<N: Nodes, M: Names, S: Steps>(
     nodes: &mut N,
-    leavers: &mut L,
+    names: &mut M,
     stack: &mut Vec<Frame>,
     search: &mut Vec<Parts>,
     guard: Guard,
@@ -200,27 +205,31 @@ pub fn free_tree<N: Nodes, L: Leavers, S: Steps>(
 )
     requires stack_room { N.slots nodes.old + 1 ≤ vec_capacity stack.old }
     requires room { N.slots nodes.old + 1 ≤ vec_capacity search.old }
-    ensures does { Does (Both (N.stands nodes.old) (L.names leavers.old)) (Both (N.stands nodes.new) (L.names leavers.new)) (free_to (guard_of guard) (N.slots nodes.old + 1) root.number.0) (λ s. s) (S.told steps.old) (S.told steps.new) }
+    ensures does { Does (Both (N.stands nodes.old) (M.stands names.old)) (Both (N.stands nodes.new) (M.stands names.new)) (free_to (guard_of guard) (N.slots nodes.old + 1) root.number.0) (λ s. s) (S.told steps.old) (S.told steps.new) }
     ensures lacks { S.lacks steps.new ≡ S.lacks steps.old }
     ensures taken { OnlyFalls (N.is_taken nodes.old) (N.is_taken nodes.new) }
     ensures listed { OnlyFalls (N.is_listed nodes.old) (N.is_listed nodes.new) }
     ensures plain { OnlyRises (N.is_plain nodes.old) (N.is_plain nodes.new) }
     ensures next { N.next nodes.new ≡ N.next nodes.old }
     ensures slots { N.slots nodes.new ≡ N.slots nodes.old }
+    ensures roots { (name : ℕ) → M.roots names.new name ≡ M.roots names.old name }
+    ensures count { M.count names.new ≡ M.count names.old }
+    ensures limit { M.limit names.new ≡ M.limit names.old }
+    ensures over { M.over names.new ≡ M.over names.old }
     ensures stack_room { vec_capacity stack.old ≤ vec_capacity stack.new }
     ensures room { vec_capacity search.old ≤ vec_capacity search.new }
 {
     stack.clear();
-    open(nodes, leavers, stack, search, guard, root);
+    open(nodes, names, stack, search, guard, root);
     'falling: while let Some(frame) = stack.pop() {
-        go_on(nodes, leavers, stack, search, guard, frame, steps);
+        go_on(nodes, names, stack, search, guard, frame, steps);
     }
 }
 
 /// The same while an event fires: a hub stays that is its node or whose tree holds it.
-pub fn free_part<N: Nodes, L: Leavers, S: Steps>(
+pub fn free_part<N: Nodes, M: Names, S: Steps>(
     nodes: &mut N,
-    leavers: &mut L,
+    names: &mut M,
     stack: &mut Vec<Frame>,
     search: &mut Vec<Parts>,
     root: Link,
@@ -228,16 +237,20 @@ pub fn free_part<N: Nodes, L: Leavers, S: Steps>(
 )
     requires stack_room { N.slots nodes.old + 1 ≤ vec_capacity stack.old }
     requires room { N.slots nodes.old + 1 ≤ vec_capacity search.old }
-    ensures does { Does (Both (N.stands nodes.old) (L.names leavers.old)) (Both (N.stands nodes.new) (L.names leavers.new)) (freed root.number.0) (λ s. s) (S.told steps.old) (S.told steps.new) }
+    ensures does { Does (Both (N.stands nodes.old) (M.stands names.old)) (Both (N.stands nodes.new) (M.stands names.new)) (freed root.number.0) (λ s. s) (S.told steps.old) (S.told steps.new) }
     ensures lacks { S.lacks steps.new ≡ S.lacks steps.old }
     ensures taken { OnlyFalls (N.is_taken nodes.old) (N.is_taken nodes.new) }
     ensures listed { OnlyFalls (N.is_listed nodes.old) (N.is_listed nodes.new) }
     ensures plain { OnlyRises (N.is_plain nodes.old) (N.is_plain nodes.new) }
     ensures next { N.next nodes.new ≡ N.next nodes.old }
     ensures slots { N.slots nodes.new ≡ N.slots nodes.old }
+    ensures roots { (name : ℕ) → M.roots names.new name ≡ M.roots names.old name }
+    ensures count { M.count names.new ≡ M.count names.old }
+    ensures limit { M.limit names.new ≡ M.limit names.old }
+    ensures over { M.over names.new ≡ M.over names.old }
     ensures stack_room { vec_capacity stack.old ≤ vec_capacity stack.new }
     ensures room { vec_capacity search.old ≤ vec_capacity search.new }
 {
     let guard = Guard::Holding(nodes.firing());
-    free_tree(nodes, leavers, stack, search, guard, root, steps);
+    free_tree(nodes, names, stack, search, guard, root, steps);
 }

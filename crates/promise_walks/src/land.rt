@@ -11,7 +11,8 @@ ghost use Rattle.promise_nodes.specs.Kept.{OnlyFalls, OnlyRises, ShowsPlain};
 ghost use Rattle.promise_walks.specs.Walks.{Does};
 ghost use Rattle.promise_walks.specs.Values.{Gives, GivesRoot, IsBare, gave_given};
 
-use kj_base::{Form, Link, NoMemory, Outcome, StepId, Steps};
+use kj_base::{Form, Link, NoMemory, Outcome, StepId};
+use promise_commands::Steps;
 use promise_nodes::Nodes;
 
 /// What a step gave.

@@ -13,7 +13,8 @@ use crate::evaluating::evaluate;
 use crate::land::{Given, Land};
 use crate::looks::void;
 use crate::pending::{Continuation, Pending};
-use kj_base::{Form, Link, NoMemory, Steps};
+use kj_base::{Form, Link, NoMemory};
+use promise_commands::Steps;
 
 // A Then that has its tree.
 fn continuation<L: Land>(land: &L, node: Link) -> Option<Continuation>

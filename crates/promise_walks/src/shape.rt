@@ -6,7 +6,8 @@ ghost use Rattle.promise_nodes.specs.Shown.{shown, link_number, content_shown, s
 ghost use Rattle.promise_nodes.specs.Kept.{IsBranch};
 ghost use Rattle.promise_walks.specs.Shapes.{AreParts, leaving_of, hub_of, SeesShape, HasHub};
 
-use kj_base::{Content, Form, Link, Name, NodeId, Slot, Stage};
+use kj_base::{Content, Form, Link, NodeId, Slot, Stage};
+use promise_names::Leaving;
 use promise_nodes::Nodes;
 
 /// Nodes whose numbers follow each other, from the next one on. Only the slot of the first of them is known.
@@ -14,16 +15,6 @@ use promise_nodes::Nodes;
 pub struct Parts {
     pub next: Link,
     pub count: u8,
-}
-
-/// What a node that goes leaves to whoever keeps the names.
-#[derive(Clone, Copy, Debug, PartialEq, Eq)]
-pub enum Leaving {
-    Nothing,
-    /// A cell that waits.
-    Cell,
-    /// A wrapped promise, and its canceler.
-    Wrap(Name),
 }
 
 // The parts of a node, what it leaves, and a branch's hub.

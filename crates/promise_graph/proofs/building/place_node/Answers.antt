@@ -7,6 +7,8 @@ use Rattle.kj_base.specs.Store.{slot_number, IsBareOrNone}
 use Rattle.promise_graph.specs.Rings.{next_at, prev_at}
 use Rattle.promise_graph.specs.Kept.{nobody}
 use Rattle.promise_graph.proofs.Built.{built_low, built_each, built_given, built_indexed, built_armed, index_rising, index_below, index_above, seen_built, number_live}
+use Rattle.promise_graph.specs.Slots.{number_of}
+use Rattle.promise_graph.proofs.Tasks.{tasks_built}
 use Rattle.promise_graph.proofs.building.place_node.Goals as goal
 
 pub returns-clause-sound : goal.returns-clause-sound
@@ -47,6 +49,7 @@ returns-clause-sound g c =
         | inl p ↦ ap (next_at m.rings) p ∙ sound.single slot within put.was_free ∙ sym p
         | inr d ↦ sound.single s h (sym (put.nodes s d) ∙ e)
       ];
+      tasks_paired = sound.tasks_paired;
     }
 
 pub returns-clause-seen : goal.returns-clause-seen
@@ -61,7 +64,7 @@ returns-clause-seen g c w st =
     let within : slot < m.slots = omega (arith, put.below, put.slots, sound.store_is) in
     let alone : next_at m.rings slot ≡ slot = sound.single slot within put.was_free in
     seen_built at new m slot c.args.form k put.was_free put.placed put.nodes _ _ _ _ (slot_number c.args.before) w refl refl refl refl refl alone (ap (prev_at m.rings) (sym alone) ∙ sound.paired.back slot within)
-    (λ s e. number_live at s (g.met.St.Store.bare_live c.args.g.now.store s (subst (IsBareOrNone (g.St.Store.is_bare c.args.g.now.store)) e c.requires.bare))) sound.events.armed put.spots st
+    (λ s e. number_live at s (g.met.St.Store.bare_live c.args.g.now.store s (subst (IsBareOrNone (g.St.Store.is_bare c.args.g.now.store)) e c.requires.bare))) sound.events.armed put.spots (tasks_built at new m _ slot k (returns-clause-sound g c).numbered (ap number_of put.was_free) (ap number_of put.placed) (λ s d. ap number_of (put.nodes s d)) w.detached st.tasks) st
 
 pub returns-clause-added : goal.returns-clause-added
 returns-clause-added g c =

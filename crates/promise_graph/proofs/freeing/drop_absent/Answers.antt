@@ -47,6 +47,7 @@ stands at q r sp m n w a queue st = record {
     slots_are = st.seen.slots_are;
     firing_is = st.seen.firing_is;
     awaited_is = st.seen.awaited_is;
+    tasks = st.seen.tasks;
   };
   owned = st.owned;
 }

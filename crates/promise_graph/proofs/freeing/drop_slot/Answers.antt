@@ -4,7 +4,7 @@ use Rattle.std.proofs.lemmas.Bool.{cases_eq}
 use Rattle.std.specs.List.{AllByRecursion}
 use Rattle.kj_base.specs.Queue.{Events, disarmed, IsQueue}
 use Rattle.kj_base.proofs.QueueLemmas.{disarmed_keeps}
-use Rattle.promise_graph.specs.Slots.{number_at}
+use Rattle.promise_graph.specs.Slots.{number_of, number_at}
 use Rattle.promise_graph.specs.Rings.{ArePaired}
 use Rattle.promise_graph.specs.Kept.{IsArmable, hub_of, is_plain_node}
 use Rattle.promise_graph.proofs.Lists.{is_some_of}
@@ -13,6 +13,7 @@ use Rattle.promise_graph.proofs.Places.{spots_but}
 use Rattle.promise_graph.proofs.Cutting.{alone_still}
 use Rattle.promise_graph.proofs.Falling.{falls}
 use Rattle.promise_graph.proofs.Gone.{other_number, not_slot, still, still_low, still_live, live_slot, numbers_gone, armable, queue_gone, nodes_gone, before}
+use Rattle.promise_graph.proofs.Tasks.{tasks_gone}
 use Rattle.promise_graph.proofs.freeing.drop_slot.Goals as goal
 
 pub returns-clause-kept : goal.returns-clause-kept
@@ -58,6 +59,7 @@ returns-clause-kept g c =
           | inl p ↦ ap (Rattle.promise_graph.specs.Rings.next_at c.cut.new.rings) p ∙ c.cut.ensures.alone ∙ sym p
           | inr d ↦ alone_still m.rings c.cut.new.rings slot m.slots s c.cut.ensures all.sound.paired low (all.sound.single s h (sym (free.nodes s d) ∙ e))
         ];
+        tasks_paired = subst (λ (j : ℕ). ArePaired c.cut-2.new.rings j) all.sound.tasks_paired.all_next c.cut-2.ensures.paired;
       };
       owned = record {
         all_owners = all.owned.all_owners;
@@ -88,6 +90,7 @@ returns-clause-stands g c w st =
         slots_are = st.seen.slots_are;
         firing_is = st.seen.firing_is;
         awaited_is = st.seen.awaited_is;
+        tasks = tasks_gone at new m _ slot n k (returns-clause-kept g c).sound.numbered live (ap number_of free.freed) (λ s d. ap number_of (free.nodes s d)) c.cut-2.new.rings w.detached c.cut-2.ensures all.sound.tasks_paired st.seen.tasks;
       };
       owned = record {
         owner_is = λ s t j node e h i. st.owned.owner_is s t j node (before at new m slot n k live free.freed free.nodes s node e) (still at new m slot n k live free.freed free.nodes t j h) i;

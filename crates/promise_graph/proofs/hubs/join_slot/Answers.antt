@@ -50,6 +50,7 @@ returns-clause-stands g c w st =
         slots_are = st.seen.slots_are;
         firing_is = st.seen.firing_is;
         awaited_is = st.seen.awaited_is;
+        tasks = st.seen.tasks;
       };
       owned = record { owner_is = st.owned.owner_is; below = st.owned.below };
     })

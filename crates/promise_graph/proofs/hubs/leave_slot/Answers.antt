@@ -42,6 +42,7 @@ returns g c =
           events = all.sound.events;
           paired = subst (λ (j : ℕ). ArePaired r j) all.sound.paired.all_next cut.paired;
           single = λ s h e. alone_still m.rings r slot m.slots s cut all.sound.paired low (all.sound.single s h e);
+          tasks_paired = all.sound.tasks_paired;
         };
         owned = record { all_owners = all.owned.all_owners; bare_is = all.owned.bare_is };
       };
@@ -60,6 +61,7 @@ returns g c =
               slots_are = st.seen.slots_are;
               firing_is = st.seen.firing_is;
               awaited_is = st.seen.awaited_is;
+              tasks = st.seen.tasks;
             };
             owned = record { owner_is = st.owned.owner_is; below = st.owned.below };
           });

@@ -52,6 +52,7 @@ returns-clause-kept g c =
         };
         paired = all.sound.paired;
         single = λ s h e. all.sound.single s h (still_none at new s (same s) e);
+        tasks_paired = all.sound.tasks_paired;
       };
       owned = record {
         all_owners = all.owned.all_owners;
@@ -80,6 +81,7 @@ returns-clause-stands g c w st adds =
         slots_are = st.seen.slots_are;
         firing_is = st.seen.firing_is;
         awaited_is = st.seen.awaited_is;
+        tasks = st.seen.tasks;
       };
       owned = owned_put at new m slot n c.args.form node old.0 k c.requires.live refl refl old.1 c.set.ensures.changed c.set.ensures.nodes kind w.nodes st.seen.nodes (λ j i. adds j i) st.owned;
     }

@@ -17,7 +17,7 @@ returns-in-Some-clause-enters g c k s stands =
     let w = without_branch n hub.number.0 s.world in
     let sees = c.requires.shape s.world stands.0 in
     let branch = branch_seen _ c.args.shape hub sees c.in-Some.is in
-    let after : Both (g.N.Nodes.stands c.leave_hub-is_last.new.self) (g.L.Leavers.names c.args._leavers.now) w = (c.leave_hub-is_last.ensures.stands s.world stands.0 branch, g.met.L.Leavers.nodes_free c.args._leavers.now s.world w (without_branch_names n hub.number.0 s.world) stands.1) in
+    let after : Both (g.N.Nodes.stands c.leave_hub-is_last.new.self) (g.M.Names.stands c.args._names.now) w = (c.leave_hub-is_last.ensures.stands s.world stands.0 branch, g.met.M.Names.nodes_free c.args._names.now s.world w (without_branch_names n hub.number.0 s.world) stands.1) in
     record {
       state = silent (without_branch n hub.number.0) s;
       stands = after;

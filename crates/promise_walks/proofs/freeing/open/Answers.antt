@@ -25,7 +25,7 @@ returns-then-is_deep-clause-moves g c s stands =
     let d = g.N.Nodes.slots c.args.nodes.now + 1 in
     let fs = c.args.stack.now.items in
     let zero_left : d - length fs ≡ 0 = grind (arith, nat_tests, c.if-is_deep.true, c.is_deep.ensures, c.slots.ensures, c.len.ensures) in
-    moves_not (Both (g.N.Nodes.stands c.args.nodes.now) (g.L.Leavers.names c.args.leavers.now)) (λ (t : State). finish guard d fs (free_to guard (d - length fs) n t)) (finish guard d fs)
+    moves_not (Both (g.N.Nodes.stands c.args.nodes.now) (g.M.Names.stands c.args.names.now)) (λ (t : State). finish guard d fs (free_to guard (d - length fs) n t)) (finish guard d fs)
     (λ t. ap (λ (j : ℕ). finish guard d fs (free_to guard j n t)) zero_left ∙ ap (λ (u : State). finish guard d fs u) (free_zero guard n t)) s stands
 
 pub returns-in_default-clause-moves : goal.returns-in_default-clause-moves

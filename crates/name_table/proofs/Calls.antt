@@ -1,0 +1,101 @@
+-- What the calls of a table leave, for every world that it stands for.
+use Rattle.std.proofs.Common.{◌≡◌, ℕ, List, [], None, Some, map, sym, ap, ◌∙◌, subst}
+use Rattle.std.specs.Prelude.{filter}
+use Rattle.kj_base.specs.declared.nodes.Link.{Link}
+use Rattle.kj_base.specs.declared.numbers.Name.{Name}
+use Rattle.kj_model.specs.World.{World}
+use Rattle.kj_model.specs.Changes.{named, unnamed}
+use Rattle.kj_model.specs.Nodes.{dropped}
+use Rattle.kj_model.specs.Fire.{without_left_over}
+use Rattle.promise_names.specs.Held.{held_shown, IsNoAsk, HasRoot, root_of, roots_replaced}
+use Rattle.promise_names.specs.declared.names.Held.{Held}
+use Rattle.name_table.specs.declared.entries.Entry.{Entry}
+use Rattle.name_table.specs.Entries.{without_entry, entered, entry_replaced}
+use Rattle.name_table.specs.Table.{Table, Stands, root_at, is_other}
+use Rattle.name_table.proofs.Rising.{rising_entered, rising_without, all_entered, all_without, entered_self, entered_other, held_gone, gone_other}
+use Rattle.name_table.proofs.Names.{named_is, unnamed_is}
+use Rattle.name_table.proofs.Replaced.{replaced_is, rising_replaced, no_asks_replaced}
+use Rattle.name_table.proofs.Trees.{trees_dropped}
+
+-- the table with other entries
+abbrev pub with_entries : List Entry → Table → Table
+with_entries es t = record { entries = es; limit = t.limit; awaited = t.awaited; over = t.over; stopped = t.stopped }
+
+-- the table with other trees that are left over
+abbrev pub with_over : List Link → Table → Table
+with_over links t = record { entries = t.entries; limit = t.limit; awaited = t.awaited; over = links; stopped = t.stopped }
+
+pub set_stands : (name : Name) (held : Held) (es : List Entry) (t : Table) (w : World) → IsNoAsk held → es ≡ entered (record { name = name; held = held }) t.entries → Stands t w
+    → Stands (with_entries es t) (named name.0 (held_shown [] held) w)
+set_stands name held es t w ask is st =
+    let x : Entry = record { name = name; held = held } in
+    subst (λ (l : List Entry). Stands (with_entries l t) (named name.0 (held_shown [] held) w)) (sym is) (record {
+      names = named_is name held w.names t.entries st.names;
+      rising = rising_entered x t.entries st.rising;
+      no_asks = all_entered (λ (e : Entry). IsNoAsk e.held) x t.entries ask st.no_asks;
+      awaited = st.awaited;
+      over = st.over;
+      asks = st.asks;
+      ended = st.ended;
+      abandoned = st.abandoned;
+      limit = st.limit;
+      stopped = st.stopped;
+    })
+
+pub set_root : (name : Name) (held : Held) (es : List Entry) (t : Table) → es ≡ entered (record { name = name; held = held }) t.entries
+    → HasRoot (root_at t) (root_at (with_entries es t)) name.0 (root_of (Some held))
+set_root name held es t is =
+    let x : Entry = record { name = name; held = held } in
+    subst (λ (l : List Entry). HasRoot (root_at t) (root_at (with_entries l t)) name.0 (root_of (Some held))) (sym is)
+    (ap root_of (entered_self x t.entries), λ other apart. ap root_of (entered_other x other t.entries apart))
+
+pub remove_stands : (n : ℕ) (es : List Entry) (t : Table) (w : World) → es ≡ without_entry n t.entries → Stands t w → Stands (with_entries es t) (unnamed n w)
+remove_stands n es t w is st =
+    subst (λ (l : List Entry). Stands (with_entries l t) (unnamed n w)) (sym is) (record {
+      names = unnamed_is n w.names t.entries st.names;
+      rising = rising_without n t.entries st.rising;
+      no_asks = all_without (λ (e : Entry). IsNoAsk e.held) n t.entries st.no_asks;
+      awaited = st.awaited;
+      over = st.over;
+      asks = st.asks;
+      ended = st.ended;
+      abandoned = st.abandoned;
+      limit = st.limit;
+      stopped = st.stopped;
+    })
+
+pub remove_root : (n : ℕ) (es : List Entry) (t : Table) → es ≡ without_entry n t.entries → HasRoot (root_at t) (root_at (with_entries es t)) n None
+remove_root n es t is =
+    subst (λ (l : List Entry). HasRoot (root_at t) (root_at (with_entries l t)) n None) (sym is)
+    (ap root_of (held_gone n t.entries), λ other apart. ap root_of (gone_other n other t.entries apart))
+
+pub rename_stands : (old : ℕ) (new : Link) (es : List Entry) (t : Table) (w : World) → es ≡ map (entry_replaced old new) t.entries → Stands t w
+    → Stands (with_entries es t) (roots_replaced old new.number.0 w)
+rename_stands old new es t w is st =
+    subst (λ (l : List Entry). Stands (with_entries l t) (roots_replaced old new.number.0 w)) (sym is) (record {
+      names = replaced_is old new w.names t.entries st.names;
+      rising = rising_replaced old new t.entries st.rising;
+      no_asks = no_asks_replaced old new t.entries st.no_asks;
+      awaited = st.awaited;
+      over = st.over;
+      asks = st.asks;
+      ended = st.ended;
+      abandoned = st.abandoned;
+      limit = st.limit;
+      stopped = st.stopped;
+    })
+
+pub take_over_stands : (n : ℕ) (links : List Link) (t : Table) (w : World) → links ≡ filter (is_other n) t.over → Stands t w → Stands (with_over links t) (without_left_over n w)
+take_over_stands n links t w is st =
+    subst (λ (l : List Link). Stands (with_over l t) (without_left_over n w)) (sym is) (record {
+      names = st.names;
+      rising = st.rising;
+      no_asks = st.no_asks;
+      awaited = st.awaited;
+      over = ap (dropped n) st.over ∙ sym (trees_dropped n t.over);
+      asks = st.asks;
+      ended = st.ended;
+      abandoned = st.abandoned;
+      limit = st.limit;
+      stopped = st.stopped;
+    })

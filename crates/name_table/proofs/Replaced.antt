@@ -1,0 +1,93 @@
+-- A tree takes the place of another under a name.
+use Rattle.std.proofs.Common.{◌≡◌, ℕ, ◌+◌, ◌<◌, Bool, true, false, List, [], ◌∷◌, ◌++◌, Some, map, length, take, drop, get_or, refl, sym, ap, ◌∙◌}
+use Rattle.std.specs.Prelude.{nat_eq, slice_set}
+use Rattle.std.proofs.lemmas.List.{get_or_default}
+use Rattle.std.proofs.lemmas.List.Edits.{map_over_more}
+use Rattle.std.specs.List.{AllByRecursion}
+use Rattle.kj_base.specs.declared.nodes.Link.{Link}
+use Rattle.kj_model.specs.World.{Named, Held, Promise}
+use Rattle.kj_model.specs.Nodes.{renamed_if}
+use Rattle.kj_model.specs.Fire.{held_renamed, named_renamed}
+use Rattle.promise_names.specs.Held.{held_shown, IsNoAsk, root_of, root_renamed}
+use Rattle.promise_names.specs.declared.names.Held.{Held as HeldCase}
+use Rattle.promise_names.specs.declared.names.Held.TheVariants.{Promise as PromiseCase, CellOf as CellCase, AskCell as AskCase, HubOf as HubCase, Group as GroupCase, Canceler as CancelerCase, RequestOf as RequestCase}
+use Rattle.name_table.specs.declared.entries.Entry.{Entry}
+use Rattle.name_table.specs.Entries.{IsRising, held_in, link_if, held_replaced, entry_replaced, names_of}
+use Rattle.name_table.specs.Table.{HasNoAsks}
+
+link_is : (b : Bool) (new root : Link) → (link_if b new root).number.0 ≡ renamed_if b new.number.0 root.number.0
+link_is true new root = refl
+link_is false new root = refl
+
+held_is : (old : ℕ) (new : Link) (held : HeldCase) → held_shown [] (held_replaced old new held) ≡ held_renamed old new.number.0 (held_shown [] held)
+held_is old new (PromiseCase root) = ap (λ (n : ℕ). Promise n) (link_is (nat_eq root.number.0 old) new root)
+held_is old new (CellCase cell) = refl
+held_is old new (AskCase cell taken) = refl
+held_is old new (HubCase hub) = refl
+held_is old new (GroupCase error empty) = refl
+held_is old new CancelerCase = refl
+held_is old new (RequestCase request) = refl
+
+names_replaced : (old : ℕ) (new : Link) (es : List Entry) → names_of (map (entry_replaced old new) es) ≡ map (named_renamed old new.number.0) (names_of es)
+names_replaced old new [] = refl
+names_replaced old new (e ∷ es) =
+    ap (λ (h : Held). named_as e.name.0 h ∷ names_of (map (entry_replaced old new) es)) (held_is old new e.held)
+    ∙ ap (λ (l : List Named). named_as e.name.0 (held_renamed old new.number.0 (held_shown [] e.held)) ∷ l) (names_replaced old new es)
+  where
+    named_as : ℕ → Held → Named
+    named_as n h = record { name = n; held = h }
+
+pub replaced_is : (old : ℕ) (new : Link) (names : List Named) (es : List Entry) → names ≡ names_of es → map (named_renamed old new.number.0) names ≡ names_of (map (entry_replaced old new) es)
+replaced_is old new names es is = ap (map (named_renamed old new.number.0)) is ∙ sym (names_replaced old new es)
+
+above_replaced : (old : ℕ) (new : Link) (n : ℕ) (es : List Entry) → AllByRecursion (λ (later : Entry). n < later.name.0) es → AllByRecursion (λ (later : Entry). n < later.name.0) (map (entry_replaced old new) es)
+above_replaced old new n [] all = tt
+above_replaced old new n (e ∷ es) all = (all.0, above_replaced old new n es all.1)
+
+pub rising_replaced : (old : ℕ) (new : Link) (es : List Entry) → IsRising es → IsRising (map (entry_replaced old new) es)
+rising_replaced old new [] r = tt
+rising_replaced old new (e ∷ es) r = (above_replaced old new e.name.0 es r.0, rising_replaced old new es r.1)
+
+no_ask : (old : ℕ) (new : Link) (held : HeldCase) → IsNoAsk held → IsNoAsk (held_replaced old new held)
+no_ask old new (PromiseCase root) h = tt
+no_ask old new (CellCase cell) h = tt
+no_ask old new (AskCase cell taken) h = h
+no_ask old new (HubCase hub) h = tt
+no_ask old new (GroupCase error empty) h = tt
+no_ask old new CancelerCase h = tt
+no_ask old new (RequestCase request) h = tt
+
+pub no_asks_replaced : (old : ℕ) (new : Link) (es : List Entry) → HasNoAsks es → HasNoAsks (map (entry_replaced old new) es)
+no_asks_replaced old new [] all = tt
+no_asks_replaced old new (e ∷ es) all = (no_ask old new e.held all.0, no_asks_replaced old new es all.1)
+
+root_is : (old : ℕ) (new : Link) (held : HeldCase) → root_of (Some (held_replaced old new held)) ≡ root_renamed old new.number.0 (root_of (Some held))
+root_is old new (PromiseCase root) = ap (λ (n : ℕ). Some n) (link_is (nat_eq root.number.0 old) new root)
+root_is old new (CellCase cell) = refl
+root_is old new (AskCase cell taken) = refl
+root_is old new (HubCase hub) = refl
+root_is old new (GroupCase error empty) = refl
+root_is old new CancelerCase = refl
+root_is old new (RequestCase request) = refl
+
+root_step : (old : ℕ) (new : Link) (n : ℕ) (e : Entry) (es : List Entry) (b : Bool) → nat_eq e.name.0 n ≡ b
+    → root_of (held_in n (map (entry_replaced old new) es)) ≡ root_renamed old new.number.0 (root_of (held_in n es))
+    → root_of (held_in n (map (entry_replaced old new) (e ∷ es))) ≡ root_renamed old new.number.0 (root_of (held_in n (e ∷ es)))
+root_step old new n e es true t ih = rw t (root_is old new e.held)
+root_step old new n e es false t ih = rw t ih
+
+pub roots_are : (old : ℕ) (new : Link) (es : List Entry) (n : ℕ) → root_of (held_in n (map (entry_replaced old new) es)) ≡ root_renamed old new.number.0 (root_of (held_in n es))
+roots_are old new [] n = refl
+roots_are old new (e ∷ es) n = root_step old new n e es (nat_eq e.name.0 n) refl (roots_are old new es n)
+
+-- ---- one entry after another
+
+pub replaced_more : (old : ℕ) (new : Link) (xs ys : List Entry) (i : ℕ) (d : Entry) (held : HeldCase) → i < length xs → i < length ys
+    → ys ≡ map (entry_replaced old new) (take i xs) ++ drop i xs → held ≡ held_replaced old new (get_or ys i d).held
+    → slice_set ys i (record { name = (get_or ys i d).name; held = held }) ≡ map (entry_replaced old new) (take (i + 1) xs) ++ drop (i + 1) xs
+replaced_more old new xs ys i d held low within is after =
+    let x : Entry = get_or ys i d in
+    ap (λ (h : HeldCase). slice_set ys i (entry_as x h)) after ∙ map_over_more (entry_replaced old new) xs ys i x low is (get_or_default ys i d x within)
+  where
+    entry_as : Entry → HeldCase → Entry
+    entry_as e h = record { name = e.name; held = h }

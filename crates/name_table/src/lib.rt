@@ -1,0 +1,12 @@
+//! The names of a loop, in a vector by rising name.
+#![tactic(auto)]
+
+mod entries;
+mod left_over;
+mod table;
+
+pub use entries::Entry;
+pub use table::NameTable;
+
+#[cfg(test)]
+mod tests;

@@ -1,0 +1,149 @@
+//! The table of names.
+ghost use Rattle.std.specs.Prelude.{◌≡◌, [], IfOk};
+ghost use Rattle.kj_base.specs.declared.numbers.Limits.{Limits};
+ghost use Rattle.kj_model.specs.World.{new_world};
+ghost use Rattle.name_table.specs.Table.{Stands};
+
+use crate::entries::{self, Entry};
+use crate::left_over;
+use kj_base::{Limits, Link, Name, NoMemory};
+use promise_names::{Held, Leaving, Names};
+use std::alloc::Global;
+use std::marker::Model;
+
+/// How many trees may be left over.
+const LEFT_OVER: usize = 2;
+
+/// What each name holds, in a vector by rising name. A look-up is a bisection; a name that comes or goes moves those
+/// behind it, and `rename` looks at each.
+#[derive(Drop)]
+pub struct NameTable {
+    entries: Vec<Entry>,
+    limit: u32,
+    awaited: Option<Name>,
+    over: Vec<Link>,
+    stopped: bool,
+}
+
+impl Model for NameTable {
+    ghost use Rattle.name_table.specs.Table.{Table};
+
+    ghost Value = { Table };
+
+    ghost use Rattle.name_table.specs.Table.{view_of, IsKept};
+
+    ghost view = { view_of };
+
+    ghost invariant = { IsKept };
+}
+
+impl NameTable {
+    /// No names, in a loop with these limits. This takes all memory.
+    pub fn new(alloc: Global, limits: Limits) -> Result<NameTable, NoMemory>
+        ensures stands { IfOk result (λ names. (all : Limits) → all.names ≡ limits.names → Stands names (new_world all)) }
+        ensures no_names { IfOk result (λ names. names.entries ≡ []) }
+        ensures limit { IfOk result (λ names. names.limit ≡ limits.names) }
+        ensures none_over { IfOk result (λ names. names.over ≡ []) }
+    {
+        Ok(NameTable {
+            entries: Vec::with_capacity(alloc, limits.names as usize)?,
+            limit: limits.names,
+            awaited: None,
+            over: Vec::with_capacity(alloc, LEFT_OVER)?,
+            stopped: false,
+        })
+    }
+}
+
+impl Names for NameTable {
+    ghost use Rattle.std.specs.Prelude.{length};
+    ghost use Rattle.name_table.specs.Table.{Stands, root_at, trees};
+
+    ghost stands = { Stands };
+
+    ghost roots = { root_at };
+
+    ghost count = { λ t. length t.entries };
+
+    ghost limit = { λ t. t.limit };
+
+    ghost over = { λ t. trees t.over };
+
+    fn get(&self, name: Name) -> Option<Held> {
+        entries::held_of(&self.entries, name)
+    }
+
+    fn len(&self) -> u32 {
+        self.entries.len() as u32
+    }
+
+    fn limit(&self) -> u32 {
+        self.limit
+    }
+
+    fn first(&self) -> Option<Name> {
+        match self.entries.first() {
+            Some(entry) => Some(entry.name),
+            None => None,
+        }
+    }
+
+    fn set(&mut self, name: Name, held: Held) {
+        entries::put(&mut self.entries, Entry { name, held });
+    }
+
+    fn remove(&mut self, name: Name) {
+        entries::take(&mut self.entries, name);
+    }
+
+    fn rename(&mut self, old: Link, new: Link) {
+        entries::replace(&mut self.entries, old, new);
+    }
+
+    // No name has an ask, and no canceler a Wrap.
+    fn left(&mut self, _node: Link, _leaving: Leaving) {}
+
+    fn is_stopped(&self) -> bool {
+        self.stopped
+    }
+
+    fn stop(&mut self) {
+        self.stopped = true;
+    }
+
+    fn awaited(&self) -> Option<Name> {
+        self.awaited
+    }
+
+    fn set_awaited(&mut self, name: Option<Name>) {
+        self.awaited = name;
+    }
+
+    fn left_over(&self, place: usize) -> Option<Link> {
+        self.over.get(place).copied()
+    }
+
+    fn leave_over(&mut self, tree: Link) {
+        left_over::push_back(&mut self.over, tree);
+    }
+
+    fn lose(&mut self, tree: Link) {
+        left_over::push_front(&mut self.over, tree);
+    }
+
+    fn take_over(&mut self, tree: Link) {
+        left_over::drop_tree(&mut self.over, tree);
+    }
+
+    ghost use Rattle.name_table.specs.Laws.{table_nodes_free, table_over_is, table_no_tasks, table_once, table_limit_is};
+
+    ghost nodes_free = { table_nodes_free };
+
+    ghost over_is = { table_over_is };
+
+    ghost no_tasks = { table_no_tasks };
+
+    ghost once = { table_once };
+
+    ghost limit_is = { table_limit_is };
+}

@@ -1,0 +1,131 @@
+//! Worked lists of calls.
+use crate::NameTable;
+use kj_base::{Limits, Link, Name, NodeId, Slot};
+use promise_names::{Held, Leaving, Names};
+use std::test::Fail;
+
+// How many names there may be in these tests.
+const LIMIT: u32 = 3;
+
+const LIMITS: Limits = Limits {
+    slots: 8,
+    names: LIMIT,
+};
+
+#[derive(Drop)]
+enum Call {
+    Promise(u32, u64),
+    Canceler(u32),
+    Remove(u32),
+}
+
+// A call; and the name of which it speaks, what that holds then, the lowest name, and how many there are.
+#[derive(Drop)]
+struct Row {
+    call: Call,
+    name: u32,
+    held: Option<Held>,
+    first: Option<Name>,
+    len: u32,
+}
+
+fn tree(number: u64) -> Link {
+    Link {
+        slot: Slot(0),
+        number: NodeId(number),
+    }
+}
+
+fn promise(number: u64) -> Option<Held> {
+    Some(Held::Promise(tree(number)))
+}
+
+fn make_row(call: Call, name: u32, held: Option<Held>, first: u32, len: u32) -> Row {
+    Row {
+        call,
+        name,
+        held,
+        first: Some(Name(first)),
+        len,
+    }
+}
+
+// A call, where there is room for it.
+fn run(names: &mut NameTable, call: &Call) {
+    match call {
+        Call::Remove(name) => names.remove(Name(*name)),
+        _ if names.len() >= names.limit() => {}
+        Call::Promise(name, number) => names.set(Name(*name), Held::Promise(tree(*number))),
+        Call::Canceler(name) => names.set(Name(*name), Held::Canceler),
+    }
+}
+
+#[test]
+fn names_come_and_go(rt: HostRuntime) -> Result<(), Fail> {
+    let mut names = NameTable::new(rt.alloc(), LIMITS)?;
+    assert_eq!(rt; names.first(), None);
+    let rows = [
+        make_row(Call::Promise(5, 1), 5, promise(1), 5, 1),
+        make_row(Call::Promise(2, 4), 2, promise(4), 2, 2),
+        // A name that is there holds another thing, and is no name more.
+        make_row(Call::Canceler(5), 5, Some(Held::Canceler), 2, 2),
+        make_row(Call::Promise(9, 7), 9, promise(7), 2, 3),
+        // There is room for three.
+        make_row(Call::Promise(1, 8), 1, None, 2, 3),
+        make_row(Call::Remove(2), 2, None, 5, 2),
+        make_row(Call::Remove(2), 2, None, 5, 2),
+        make_row(Call::Remove(4), 9, promise(7), 5, 2),
+        // The room of a name that went is used again.
+        make_row(Call::Promise(7, 3), 7, promise(3), 5, 3),
+        make_row(Call::Remove(5), 9, promise(7), 7, 2),
+        make_row(Call::Promise(0, 6), 0, promise(6), 0, 3),
+        make_row(Call::Remove(9), 7, promise(3), 0, 2),
+    ];
+    for row in &rows {
+        run(&mut names, &row.call);
+        assert_eq!(rt; names.get(Name(row.name)), row.held);
+        assert_eq!(rt; names.first(), row.first);
+        assert_eq!(rt; names.len(), row.len);
+    }
+    assert_eq!(rt; names.limit(), LIMIT);
+    Ok(())
+}
+
+#[test]
+fn a_promise_has_another_tree(rt: HostRuntime) -> Result<(), Fail> {
+    let mut names = NameTable::new(rt.alloc(), LIMITS)?;
+    names.set(Name(5), Held::Promise(tree(1)));
+    names.rename(tree(1), tree(8));
+    assert_eq!(rt; names.get(Name(5)), promise(8));
+    Ok(())
+}
+
+#[test]
+fn trees_are_left_over(rt: HostRuntime) -> Result<(), Fail> {
+    let mut names = NameTable::new(rt.alloc(), LIMITS)?;
+    names.leave_over(tree(4));
+    names.lose(tree(2));
+    assert_eq!(rt; names.left_over(0), Some(tree(2)));
+    assert_eq!(rt; names.left_over(1), Some(tree(4)));
+    assert_eq!(rt; names.left_over(2), None);
+    names.take_over(tree(2));
+    assert_eq!(rt; names.left_over(0), Some(tree(4)));
+    assert_eq!(rt; names.left_over(1), None);
+    Ok(())
+}
+
+#[test]
+fn loops_stop(rt: HostRuntime) -> Result<(), Fail> {
+    let mut names = NameTable::new(rt.alloc(), LIMITS)?;
+    assert!(rt; !names.is_stopped());
+    assert_eq!(rt; names.awaited(), None);
+    run(&mut names, &Call::Canceler(3));
+    names.set_awaited(Some(Name(6)));
+    names.left(tree(1), Leaving::Wrap(Name(3)));
+    names.left(tree(1), Leaving::Cell);
+    names.stop();
+    assert!(rt; names.is_stopped());
+    assert_eq!(rt; names.awaited(), Some(Name(6)));
+    assert_eq!(rt; names.get(Name(3)), Some(Held::Canceler));
+    Ok(())
+}

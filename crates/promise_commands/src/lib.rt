@@ -1,0 +1,16 @@
+//! Commands, the actions of steps, and whoever runs steps.
+#![tactic(auto)]
+
+mod action;
+mod command;
+mod refused;
+mod script;
+mod sources;
+mod steps;
+
+pub use action::{Action, Commands};
+pub use command::Command;
+pub use refused::Refused;
+pub use script::{Bodies, Body, Line, Lines, NumberedLine, Script};
+pub use sources::{MAX_PARTS, Sources};
+pub use steps::Steps;
