@@ -1,11 +1,11 @@
 -- How the lock starts, and how passes are split and joined.
-use Rattle.std.proofs.Common.{◌≡◌, ℕ, zero, suc, ◌+◌, ◌-◌, ◌*◌, ◌^◌, ◌<◌, ◌≤◌, ◌⊎◌, List, [], ◌∷◌, ◌++◌, map, length, get_or, set, drop, replicate, sym, refl, ap, ◌∙◌, subst, inl, inr, ⊎_elim, le_refl, lt_of_not-le, arith, append-nil, length-append, div-mul-le_self, Bool, cond, ◌==◌, Some, Option}
+use Rattle.std.proofs.Common.{◌≡◌, ℕ, zero, suc, ◌+◌, ◌-◌, ◌*◌, ◌^◌, ◌<◌, ◌≤◌, ◌≢◌, ◌⊎◌, List, [], ◌∷◌, ◌++◌, map, length, get_or, set, drop, replicate, sym, refl, ap, ◌∙◌, subst, inl, inr, ⊎_elim, le_refl, lt_of_not-le, arith, append-nil, length-append, div-mul-le_self, Bool, cond, true, false, ltb, ◌==◌, Some, Option}
 use mathlib.Core.Option.{some, none, some-injective, some-ne-none}
 use mathlib.Core.Logic.{dite}
-use native.Mathlib.Decide.{dec_le}
+use native.Mathlib.Decide.{dec_le, ℕ_discrete}
 use lib.ListN.{get_elem?, length-replicate}
 use Rattle.std.proofs.lemmas.Bool.{lt-ltb, le-ltb}
-use Rattle.std.proofs.lemmas.List.Elements.{filter-append, All-replicate, All-nil, All-take}
+use Rattle.std.proofs.lemmas.List.Elements.{filter-append, All-nil, All-take}
 use Rattle.std.proofs.lemmas.List.{set_comm}
 use Rattle.std.proofs.Math.Seq.{take-append_seam}
 use Rattle.atomic_table.specs.Table.{State, Me, step, keeps, Allows, Splits, Joins, opening}
@@ -14,8 +14,9 @@ use Rattle.count_lock.specs.declared.view.Stage.{Stage}
 use Rattle.count_lock.specs.declared.view.Stage.TheVariants.{Idle}
 use Rattle.count_lock.specs.declared.view.View.{View}
 use Rattle.count_lock.specs.declared.view.Kin.{Kin}
-use Rattle.count_lock.specs.Rule.{holding, turning, served_now, alive, waiting, load, weight, StartsWith, Spare, IsKin, Joined, Has, Owns, Apart, family, of, Made, Fits, Home, Authored, Ticketed, settled, attested, longer, left_half, right_half, joined, spent_view, first_view, given}
-use Rattle.count_lock.proofs.Moves.{set_view, moved, stays, home_stays, weight_set, waiting_set, each_set, still_alone, pairs_set, Each, Pairs, Alone}
+use Rattle.count_lock.specs.Ends.{EndLaws}
+use Rattle.count_lock.specs.Rule.{Marked, holding, turning, noting, served_now, alive, waiting, load, weight, StartsWith, Spare, IsKin, Joined, Has, Owns, Apart, family, of, Made, Fits, Home, Authored, Ticketed, settled, attested, longer, left_half, right_half, joined, spent_view, first_view, given}
+use Rattle.count_lock.proofs.Moves.{set_view, moved, stays, home_stays, set_there, note_turns, holds_turn, turn_now, stay_marks, marks_same, one_turning, weight_set, waiting_set, each_set, still_alone, pairs_set, Each, Pairs, Alone}
 
 nobody : ⊥ ⊎ ⊥ → ⊥
 nobody i = ⊎_elim (λ z. z) (λ z. z) i
@@ -89,7 +90,7 @@ module _ {E : Type 0} where
   weight_snoc [] w = let a : ℕ = load w in let g : a + 0 ≡ 0 + a = omega arith in g
   weight_snoc (v ∷ vs) w = let h = weight_snoc vs w in let a : ℕ = load v in let b : ℕ = load w in let c : ℕ = weight vs in let d : ℕ = weight (vs ++ w ∷ []) in let h' : d ≡ c + b = h in let g : a + d ≡ a + c + b = omega arith in g
 
-module _ {T E : Type 0} (entries : T → List E) (constant_of : T → ℕ) (by : E → ℕ) (words : ℕ) where
+module _ {T E : Type 0} (entries : T → List E) (constant_of : T → ℕ) (by : E → ℕ) (fin : ℕ → List E → ℕ → Option ℕ) (laws : EndLaws fin) (words : ℕ) where
   abbrev St : Type 0
   St = State (Option T) (View E)
 
@@ -97,10 +98,22 @@ module _ {T E : Type 0} (entries : T → List E) (constant_of : T → ℕ) (by :
   M = Me (Option T) (View E)
 
   abbrev R : St → Type 0
-  R = Ticketed entries constant_of by words
+  R = Ticketed entries constant_of by fin words
 
   three : (n : ℕ) → replicate {A = ℕ} (n + 3) 0 ≡ 0 ∷ 0 ∷ 0 ∷ replicate {A = ℕ} n 0
   three n = ap (λ (k : ℕ). replicate {A = ℕ} k 0) (let e : n + 3 ≡ suc (suc (suc n)) = omega arith in e)
+
+  zeros : (n k : ℕ) → get_or (replicate {A = ℕ} n 0) k 0 ≡ 0
+  zeros zero k = refl
+  zeros (suc n) zero = refl
+  zeros (suc n) (suc k) = zeros n k
+
+  longer_short : (a b : List E) (p : ℕ) → length a ≤ p → length b ≤ p → length (longer a b) ≤ p
+  longer_short a b p x y = elim (ltb (length a) (length b)) as (λ c. length (cond c b a) ≤ p) [ true ↦ y | false ↦ x ]
+
+  -- a seat that noted is none that did not
+  not_noting : (vs : List (View E)) (j i : ℕ) (u w : View E) → get_elem? vs j ≡ some u → get_elem? vs i ≡ some w → noting w.stage ≡ 0 → noting u.stage ≡ 1 → j ≡ i → ⊥
+  not_noting vs j i u w ej ei no' yes' is = let e : u ≡ w = some-injective u w (sym ej ∙ ap (get_elem? vs) is ∙ ei) in let g : noting u.stage ≡ noting w.stage = ap (λ (x : View E). noting x.stage) e in omega arith
 
   only : (a b : View E) (j : ℕ) → get_elem? (a ∷ []) j ≡ some b → (j ≡ 0) × (a ≡ b)
   only a b zero e = (refl, some-injective a b e)
@@ -114,7 +127,8 @@ module _ {T E : Type 0} (entries : T → List E) (constant_of : T → ℕ) (by :
     ends = replicate {A = ℕ} words 0;
     words_are = wide ∙ three words;
     short = omega arith;
-    ends_fit = (length-replicate words 0, All-replicate (λ k. k ≡ 0) words 0 refl);
+    count = length-replicate words 0;
+    marks = λ k h. let z : get_or (replicate {A = ℕ} words 0) k 0 ≡ 0 = zeros words k in ((λ nz. absurd (nz z)), λ _ p e. let low = laws.within kd [] k p e in absurd (omega arith));
     authors = All-nil (λ (e : E). by e < 2 ^ 32);
     waits = refl;
     weighs = omega arith;
@@ -124,6 +138,7 @@ module _ {T E : Type 0} (entries : T → List E) (constant_of : T → ℕ) (by :
     each = λ j u e. subst (Fits by 0 0 []) (only (first_view kd) u j e).1 record {
       front = ([], refl);
       told = ([], refl);
+      known = ([], refl);
       ticket = λ h. absurd (omega arith);
       turn = λ h. absurd (omega arith);
       mine = λ _. (refl, refl);
@@ -150,10 +165,11 @@ module _ {T E : Type 0} (entries : T → List E) (constant_of : T → ℕ) (by :
       (λ (q : Spare l n). let x : a + 1 ≤ n = q.0 in let y : n < b - k = q.1 in ⊎_elim (λ (e : n ≡ a). let g : ⊥ = omega arith in g)
       (λ p'. ⊎_elim (λ (z' : Spare w n). let z : b - k ≤ n = z'.0 in let g : ⊥ = omega arith in g) nobody p') p)
       (λ i. f.fresh lives n (right n p) i) o') o in
-      let each' : Each entries constant_of by words vs r.drawn r.served r.log = each_set entries constant_of by words s.views id l r.drawn r.served r.log
+      let each' : Each entries constant_of by fin laws words vs r.drawn r.served r.log = each_set entries constant_of by fin laws words s.views id l r.drawn r.served r.log
       record {
         front = f.front;
         told = f.told;
+        known = f.known;
         ticket = λ h. absurd (omega arith);
         turn = f.turn;
         mine = f.mine;
@@ -165,11 +181,12 @@ module _ {T E : Type 0} (entries : T → List E) (constant_of : T → ℕ) (by :
         own = λ _ o. f.own lives (⊎_elim (λ p. inl (wide v.number p)) (λ i. inr i) o);
       }
       (λ j u ne e. r.each j u e) in
-      let pairs' : Pairs entries constant_of by words vs = pairs_set entries constant_of by words s.views id v l at r.pairs
-      (still_alone entries constant_of by words s.views id v l at r.pairs (λ al. al) (λ n _ o. left n o)) (λ j u ne e h. absurd (omega arith)) in
+      let pairs' : Pairs entries constant_of by fin laws words vs = pairs_set entries constant_of by fin laws words s.views id v l at r.pairs
+      (still_alone entries constant_of by fin laws words s.views id v l at r.pairs (λ al. al) (λ n _ o. left n o)) (λ j u ne e h. absurd (omega arith)) in
       let fits : Fits by r.drawn r.served r.log w = record {
         front = f.front;
         told = (r.log, refl);
+        known = (r.log, refl);
         ticket = λ h. absurd (omega arith);
         turn = λ h. absurd (omega arith);
         mine = λ _. let none' = f.spare lives a (le_refl a, room') in (none', of_none by a r.log v.seen f.front none');
@@ -185,7 +202,7 @@ module _ {T E : Type 0} (entries : T → List E) (constant_of : T → ℕ) (by :
       (λ t. ((λ _ h. absurd (omega arith)), (λ au aw n o p. (r.pairs i id u v t.1 at t.0).1 au lives n o (inr (inl (right n p))))))
       (at_set s.views id i l u e) in
       let turned : (x y : View E) → Apart x y → Apart y x = λ x y p. ((λ hy hx e. p.0 hx hy (sym e)), (λ ay ax n oy ox. p.1 ax ay n ox oy)) in
-      let home : Home entries constant_of r.constant vs r.log s.homes = home_stays entries constant_of by words r.constant s.views r.log s.homes id v l at refl r.home in
+      let home : Home entries constant_of r.constant vs r.log s.homes = home_stays entries constant_of by fin laws words r.constant s.views r.log s.homes id v l at refl r.home in
       record {
         drawn = r.drawn;
         served = r.served;
@@ -195,7 +212,21 @@ module _ {T E : Type 0} (entries : T → List E) (constant_of : T → ℕ) (by :
         short = r.short;
         constant = r.constant;
         constants = λ j u e. ⊎_elim (λ q. ⊎_elim (λ t. subst (λ (z : View E). 1 ≤ alive z.stage → z.constant ≡ r.constant) t.1 (λ a. r.constants id v at lives)) (λ t. r.constants j u t.1) (at_set s.views id j l u q)) (λ q. subst (λ (z : View E). 1 ≤ alive z.stage → z.constant ≡ r.constant) q.1 (λ a. r.constants id v at lives)) (at_end vs w u j e);
-        ends_fit = r.ends_fit;
+        count = r.count;
+        marks = λ k h. let m = marks_same entries constant_of by fin laws words s r id v l at (ap noting st) refl refl k h in (
+          m.0,
+          λ z p e. let q = m.1 z p e in record {
+            at = q.at;
+            view = q.view;
+            there = at_longer vs (w ∷ []) q.at q.view q.there;
+            notes = q.notes;
+            place = q.place;
+            unmarked = q.unmarked;
+            unseen = λ i u ne eu. ⊎_elim (λ t. q.unseen i u ne t) (λ t. let here : get_elem? vs id ≡ some l = set_there entries constant_of by fin laws words s.views id v l at in
+                let b = q.unseen id l (λ x. not_noting vs q.at id q.view l q.there here (ap noting st) q.notes (sym x)) here in
+                subst (λ (y : View E). (length y.seen ≤ p) × (length y.told ≤ p)) t.1 (b.0, (let g : 0 ≤ p = omega arith in g))) (at_end vs w u i eu);
+          },
+        );
         authors = r.authors;
         waits = let p = waiting_snoc vs w in let q = waiting_set s.views id v l at in let x : ℕ = waiting vs in let y : ℕ = waiting s.views in let z : ℕ = waiting (vs ++ w ∷ []) in let n : ℕ = holding v.stage in
             let p' : z ≡ x + 0 = p in let q' : x + n ≡ y + n = q in let t : r.served + y ≡ r.drawn = r.waits in let g : r.served + z ≡ r.drawn = omega arith in g;
@@ -221,11 +252,13 @@ module _ {T E : Type 0} (entries : T → List E) (constant_of : T → ℕ) (by :
         w,
         keeps,
         tt,
-        moved entries constant_of by words s r id v w at (set s.words 1 (get_or s.words 1 0)) s.homes r.drawn r.served r.log (ap (λ (ws : List ℕ). set ws 1 (get_or ws 1 0)) r.words_are) r.short r.authors (omega arith) (le_refl _) (λ a. a) (λ k _ o. ⊎_elim (λ e. inl e) (λ h. inr (fewer k h)) o) (λ _. refl)
-            (home_stays entries constant_of by words r.constant s.views r.log s.homes id v w at refl r.home)
+        moved entries constant_of by fin laws words s r id v w at (set s.words 1 (get_or s.words 1 0)) s.homes r.drawn r.served r.log r.ends refl (ap (λ (ws : List ℕ). set ws 1 (get_or ws 1 0)) r.words_are)
+            (stay_marks entries constant_of by fin laws words s r id v w at (ap noting st) (λ p j u ne e n o. let ab = o id v (λ x. ne (sym x)) at in (longer_short v.seen v.told p ab.0 ab.1, (let g : 0 ≤ p = omega arith in g)))) r.short r.authors (omega arith) (le_refl _) (λ a. a) (λ k _ o. ⊎_elim (λ e. inl e) (λ h. inr (fewer k h)) o) (λ _. refl)
+            (home_stays entries constant_of by fin laws words r.constant s.views r.log s.homes id v w at refl r.home)
             record {
               front = b.2;
               told = (r.log, refl);
+              known = f.known;
               ticket = f.ticket;
               turn = λ h. absurd (omega arith);
               mine = λ _. (m.0, of_between by v.number r.log w.seen v.seen b.2 b.0 (m.1 ∙ sym m.0) ∙ m.0);
@@ -244,6 +277,11 @@ module _ {T E : Type 0} (entries : T → List E) (constant_of : T → ℕ) (by :
         (refl, refl, b.0, b.1),
       )
 
+  -- only one view noted
+  one_noting : (s : St) (r : R s) (i j : ℕ) (u v : View E) → get_elem? s.views i ≡ some u → get_elem? s.views j ≡ some v → noting u.stage ≡ 1 → noting v.stage ≡ 1 → i ≡ j
+  one_noting s r i j u v ei ej nu nv = dite (ℕ_discrete i j) (λ is. is) (λ ne. let tu : turning u.stage ≡ 1 = note_turns u.stage nu in let tv : turning v.stage ≡ 1 = note_turns v.stage nv in
+      absurd (one_turning entries constant_of by fin laws words s r i j u v ei ej ne tu (holds_turn v.stage tv) ((r.each j v ej).turn (turn_now v.stage (let g : 1 ≤ turning v.stage = omega arith in g))).0))
+
   pub joins : (id : ℕ) (v : View E) (other : ℕ) (w : View E) → v.stage ≡ Idle → w.stage ≡ Idle → Joins R id v other w (joined v w) spent_view
   unfolding set_view
   joins id v other w sv sw s r at ne at' = let l : View E = joined v w in let f = r.each id v at in
@@ -253,12 +291,14 @@ module _ {T E : Type 0} (entries : T → List E) (constant_of : T → ℕ) (by :
       let vs : List (View E) = set s.views other spent_view in let s' : St = record { words = s.words; homes = s.homes; views = vs } in
       let alone : (k : ℕ) → Owns v k → Owns w k → ⊥ = λ k. (r.pairs id other v w at there (λ q. ne (sym q))).1 av aw k in
       let theirs : (k : ℕ) → IsKin (family w) k → Owns w k = λ k i. ⊎_elim (λ e. inl e) (λ i'. inr (inr (inl i'))) i in
-      let r' : R s' = set_view entries constant_of by words s r other w spent_view there s.words s.homes r.drawn r.served r.log r.words_are r.short r.authors (omega arith) (let a : ℕ = load w in let g : 0 ≤ a = omega arith in g) (λ a. absurd (omega arith))
+      let spent_marks : (k : ℕ) → k < length r.ends → Marked (fin r.constant) vs r.log k (get_or r.ends k 0) = stay_marks entries constant_of by fin laws words s r other w spent_view there (ap noting sw) (λ p j u n e nn o. ((let g : 0 ≤ p = omega arith in g), (let g : 0 ≤ p = omega arith in g))) in
+      let r' : R s' = set_view entries constant_of by fin laws words s r other w spent_view there s.words s.homes r.drawn r.served r.log r.ends refl r.words_are spent_marks r.short r.authors (omega arith) (let a : ℕ = load w in let g : 0 ≤ a = omega arith in g) (λ a. absurd (omega arith))
       (λ j u n e a. absurd (omega arith)) (λ a. absurd (omega arith))
-      (home_stays entries constant_of by words r.constant s.views r.log s.homes other w spent_view there (sym (ap turning sw)) r.home)
+      (home_stays entries constant_of by fin laws words r.constant s.views r.log s.homes other w spent_view there (sym (ap turning sw)) r.home)
       record {
         front = (r.log, refl);
         told = (r.log, refl);
+        known = (r.log, refl);
         ticket = λ a. absurd (omega arith);
         turn = λ a. absurd (omega arith);
         mine = λ a. absurd (omega arith);
@@ -271,8 +311,24 @@ module _ {T E : Type 0} (entries : T → List E) (constant_of : T → ℕ) (by :
       }
       (λ j u n e g. g) (λ j u n e hw hu. absurd (omega arith)) in
       let here : get_elem? vs id ≡ some v = set_else s.views other id spent_view (λ q. ne (sym q)) ∙ at in
+      let joined_marks : (k : ℕ) → k < length r.ends → Marked (fin r.constant) (set vs id l) r.log k (get_or r.ends k 0) = λ k h. let m = spent_marks k h in (
+        m.0,
+        λ z p fp. let q = m.1 z p fp in let ne' : q.at ≢ id = λ x. not_noting vs q.at id q.view v q.there here (ap noting sv) q.notes x in
+            let no' : q.at ≢ other = λ x. not_noting vs q.at other q.view spent_view q.there (set_there entries constant_of by fin laws words s.views other w spent_view there) refl q.notes x in
+            let was : get_elem? s.views q.at ≡ some q.view = sym (set_else s.views other q.at spent_view no') ∙ q.there in
+            let first = (r.marks k h).1 z p fp in let same : q.at ≡ first.at = one_noting s r q.at first.at q.view first.view was first.there q.notes first.notes in
+            let theirs = first.unseen other w (λ x. no' (same ∙ sym x)) there in let ours = first.unseen id v (λ x. ne' (same ∙ sym x)) at in record {
+              at = q.at;
+              view = q.view;
+              there = set_else vs id q.at l ne' ∙ q.there;
+              notes = q.notes;
+              place = q.place;
+              unmarked = q.unmarked;
+              unseen = λ i x n ei. ⊎_elim (λ t. subst (λ (y : View E). (length y.seen ≤ p) × (length y.told ≤ p)) t.1 (ours.0, theirs.0)) (λ t. q.unseen i x n t.1) (at_set vs id i l x ei);
+            },
+      ) in
       subst (λ (us : List (View E)). R record { words = s.words; homes = s.homes; views = us }) (set_comm s.views other id spent_view l ne)
-      (set_view entries constant_of by words s' r' id v l here s.words s.homes r.drawn r.served r.log r.words_are r.short r.authors (omega arith) (le_refl _) (λ a. a)
+      (set_view entries constant_of by fin laws words s' r' id v l here s.words s.homes r.drawn r.served r.log r.ends refl r.words_are joined_marks r.short r.authors (omega arith) (le_refl _) (λ a. a)
       (λ j u n e al au k ol ou. ⊎_elim
       (λ (t : (j ≡ other) × (spent_view ≡ u)). let z : alive u.stage ≡ 0 = ap (λ (x : View E). alive x.stage) (sym t.1) in absurd (omega arith))
       (λ t. ⊎_elim
@@ -285,10 +341,11 @@ module _ {T E : Type 0} (entries : T → List E) (constant_of : T → ℕ) (by :
       i) q) ol)
       (at_set s.views other j spent_view u e))
       (λ _. refl)
-      (home_stays entries constant_of by words r.constant vs r.log s.homes id v l here refl r'.home)
+      (home_stays entries constant_of by fin laws words r.constant vs r.log s.homes id v l here refl r'.home)
       record {
         front = f.front;
         told = h.front;
+        known = f.known;
         ticket = f.ticket;
         turn = f.turn;
         mine = f.mine;
@@ -303,5 +360,5 @@ module _ {T E : Type 0} (entries : T → List E) (constant_of : T → ℕ) (by :
 
   pub attests : (n id : ℕ) (me : M) → me.0.stage ≡ Idle → (y : ℕ) → Allows R n id me 1 (λ z. z) (λ z. attested by (step n 1 0 0 none) me y)
   attests n id me st y s r wide at _ = let v : View E = me.0 in let f = r.each id v at in let lives : 1 ≤ alive v.stage = subst (λ (z : Stage). 1 ≤ alive z) (sym st) (le_refl 1) in
-      stays entries constant_of by words s r id me (λ z. attested by (step n 1 0 0 none) me y) at
+      stays entries constant_of by fin laws words s r id me (λ z. attested by (step n 1 0 0 none) me y) at (ap noting st)
       (refl, (f.mine lives).1, (λ k o. of_none by k r.log v.seen f.front (f.spare lives k o)), beginning by r.log v.seen f.front r.authors, (f.kin lives).1)

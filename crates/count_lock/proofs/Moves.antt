@@ -1,19 +1,21 @@
 -- A step that changes one view keeps the rule, and each single move.
-use Rattle.std.proofs.Common.{◌≡◌, ℕ, zero, suc, ◌+◌, ◌-◌, ◌*◌, ◌/◌, ◌%◌, ◌^◌, ◌<◌, ◌≤◌, ◌≢◌, List, [], ◌∷◌, ◌++◌, length, get_or, set, sym, refl, ap, ◌∙◌, subst, inl, inr, ⊎_elim, le_refl, arith, append-nil, append_assoc, length-append, mod-eq_of_lt, eq-eqb, ne_eqb, ◌==◌, Bool, cond, Some, None, Option}
+use Rattle.std.proofs.Common.{◌≡◌, ℕ, zero, suc, ◌+◌, ◌-◌, ◌*◌, ◌/◌, ◌%◌, ◌^◌, ◌<◌, ◌≤◌, ◌≢◌, List, [], ◌∷◌, ◌++◌, length, length-set, get_or, set, sym, refl, ap, ◌∙◌, subst, inl, inr, ⊎_elim, le_refl, arith, append-nil, append_assoc, length-append, mod-eq_of_lt, eq-eqb, ne_eqb, ◌==◌, ◌||◌, Bool, true, false, cond, Some, None, Option}
 use mathlib.Core.Option.{some, none, some-injective, some-ne-none}
 use mathlib.Core.Option as maybe
 use mathlib.Core.Logic.{dite}
 use native.Mathlib.Decide.{ℕ_discrete}
 use lib.ListN.{get_elem?}
 use Rattle.std.proofs.Math.Nat.{add-mul-mod_self_right, div-add-mod'}
+use Rattle.std.proofs.lemmas.List.{get_or-set_same, get_or-set_other}
 use Rattle.std.proofs.lemmas.List.Elements.{filter-append, All-append, All-cons, All-nil}
 use Rattle.atomic_table.specs.Table.{State, Me, step, Act, put_back, keeps, takes, gives, Valid, carried_after, stepped, Allows, Final, Seen}
 use Rattle.atomic_table.proofs.Lists.{at_set, set_else, one_turn}
 use Rattle.count_lock.specs.declared.view.Stage.{Stage}
-use Rattle.count_lock.specs.declared.view.Stage.TheVariants.{Idle, Waiting, Turn, Last, Spent}
+use Rattle.count_lock.specs.declared.view.Stage.TheVariants.{Idle, Waiting, Turn, Noted, Last, Spent}
 use Rattle.count_lock.specs.declared.view.View.{View}
 use Rattle.count_lock.specs.declared.view.Kin.{Kin}
-use Rattle.count_lock.specs.Rule.{holding, turning, served_now, alive, waiting, load, weight, Spare, IsKin, Joined, Has, Owns, Apart, of, Made, Fits, Home, Authored, Ticketed, carried, drew, looked, noted, passed, laid}
+use Rattle.count_lock.specs.Ends.{EndLaws}
+use Rattle.count_lock.specs.Rule.{StartsWith, is_in, Pending, Marked, marked_one, loaded, holding, turning, noting, served_now, alive, waiting, load, weight, Spare, IsKin, Joined, Has, Owns, Apart, of, Made, Fits, Home, Authored, Ticketed, carried, drew, looked, noted, passed, laid}
 
 -- a word that wraps
 pub next_mod : (a n : ℕ) → (a % n + 1) % n ≡ (a + 1) % n
@@ -24,6 +26,7 @@ hold_load : (st : Stage) (k : ℕ) → holding st ≤ alive st * (1 + k)
 hold_load Idle k = omega arith
 hold_load Waiting k = omega arith
 hold_load Turn k = omega arith
+hold_load Noted k = omega arith
 hold_load Last k = omega arith
 hold_load Spent k = omega arith
 
@@ -31,6 +34,7 @@ pub holds_turn : (st : Stage) → turning st ≡ 1 → 1 ≤ holding st
 holds_turn Idle t = omega arith
 holds_turn Waiting t = omega arith
 holds_turn Turn t = omega arith
+holds_turn Noted t = omega arith
 holds_turn Last t = omega arith
 holds_turn Spent t = omega arith
 
@@ -38,6 +42,7 @@ pub turn_holds : (st : Stage) → 1 ≤ served_now st → 1 ≤ holding st
 turn_holds Idle t = omega arith
 turn_holds Waiting t = omega arith
 turn_holds Turn t = omega arith
+turn_holds Noted t = omega arith
 turn_holds Last t = omega arith
 turn_holds Spent t = omega arith
 
@@ -45,6 +50,7 @@ pub turn_now : (st : Stage) → 1 ≤ turning st → 1 ≤ served_now st
 turn_now Idle t = t
 turn_now Waiting t = t
 turn_now Turn t = t
+turn_now Noted t = t
 turn_now Last t = omega arith
 turn_now Spent t = t
 
@@ -52,8 +58,42 @@ pub turn_zero : (st : Stage) → ¬ (1 ≤ turning st) → turning st ≡ 0
 turn_zero Idle t = refl
 turn_zero Waiting t = refl
 turn_zero Turn t = absurd (t (le_refl 1))
+turn_zero Noted t = absurd (t (le_refl 1))
 turn_zero Last t = refl
 turn_zero Spent t = refl
+
+pub note_turns : (st : Stage) → noting st ≡ 1 → turning st ≡ 1
+note_turns Idle t = absurd (omega arith)
+note_turns Waiting t = absurd (omega arith)
+note_turns Turn t = absurd (omega arith)
+note_turns Noted t = refl
+note_turns Last t = absurd (omega arith)
+note_turns Spent t = absurd (omega arith)
+
+pub turn_alive : (st : Stage) → turning st ≡ 1 → alive st ≡ 1
+turn_alive Idle t = absurd (omega arith)
+turn_alive Waiting t = absurd (omega arith)
+turn_alive Turn t = refl
+turn_alive Noted t = refl
+turn_alive Last t = absurd (omega arith)
+turn_alive Spent t = absurd (omega arith)
+
+pub turn_one : (st : Stage) → turning st ≡ 1 → holding st ≡ 1
+turn_one Idle t = absurd (omega arith)
+turn_one Waiting t = absurd (omega arith)
+turn_one Turn t = refl
+turn_one Noted t = refl
+turn_one Last t = absurd (omega arith)
+turn_one Spent t = absurd (omega arith)
+
+pub set_same : (l : List ℕ) (i : ℕ) → set l i (get_or l i 0) ≡ l
+set_same [] i = refl
+set_same (x ∷ xs) zero = refl
+set_same (x ∷ xs) (suc i) = ap (λ (l : List ℕ). x ∷ l) (set_same xs i)
+
+pub unseen : (o : Option ℕ) → ((p : ℕ) → o ≡ Some p → ⊥) → o ≡ None
+unseen None no' = refl
+unseen (Some p) no' = absurd (no' p refl)
 
 pub unwrapped : {T : Type 0} (x y : T) → Some x ≡ Some y → x ≡ y
 unwrapped x y e = ap (λ (o : Option _). elim o [ None ↦ x | Some z ↦ z ]) e
@@ -88,7 +128,7 @@ module _ {E : Type 0} (by : E → ℕ) where
   made_more es e [] other m = tt
   made_more es e (k ∷ ks) other m = (of_snoc k.number es e (other k.number (inl refl)) ∙ m.0, made_more es e ks (λ n i. other n (inr i)) m.1)
 
-module _ {T E : Type 0} (entries : T → List E) (constant_of : T → ℕ) (by : E → ℕ) (words : ℕ) where
+module _ {T E : Type 0} (entries : T → List E) (constant_of : T → ℕ) (by : E → ℕ) (fin : ℕ → List E → ℕ → Option ℕ) (laws : EndLaws fin) (words : ℕ) where
   abbrev St : Type 0
   St = State (Option T) (View E)
 
@@ -99,7 +139,7 @@ module _ {T E : Type 0} (entries : T → List E) (constant_of : T → ℕ) (by :
   Homes = List (maybe.Option (Option T))
 
   abbrev R : St → Type 0
-  R = Ticketed entries constant_of by words
+  R = Ticketed entries constant_of by fin words
 
   abbrev pub Each : (List (View E)) → ℕ → ℕ → List E → Type 0
   Each vs d n log = (j : ℕ) (u : View E) → get_elem? vs j ≡ some u → Fits by d n log u
@@ -131,8 +171,8 @@ module _ {T E : Type 0} (entries : T → List E) (constant_of : T → ℕ) (by :
 
   -- the view of the seat id goes from v to w, and the words, the slot and the history change
   unfoldable pub set_view : (s : St) (r : R s) (id : ℕ) (v w : View E) → get_elem? s.views id ≡ some v
-      → (ws : List ℕ) (hs : Homes) (d n : ℕ) (log : List E)
-      → ws ≡ (d % 2 ^ 64) ∷ (n % 2 ^ 64) ∷ length log ∷ r.ends → length log < 2 ^ 64 → Authored by log
+      → (ws : List ℕ) (hs : Homes) (d n : ℕ) (log : List E) (es : List ℕ) → length es ≡ length r.ends
+      → ws ≡ (d % 2 ^ 64) ∷ (n % 2 ^ 64) ∷ length log ∷ es → ((k : ℕ) → k < length es → Marked (fin r.constant) (set s.views id w) log k (get_or es k 0)) → length log < 2 ^ 64 → Authored by log
       → d + holding v.stage + r.served ≡ n + r.drawn + holding w.stage
       → load w ≤ load v → (1 ≤ alive w.stage → 1 ≤ alive v.stage) → Alone s.views id w
       → (1 ≤ alive w.stage → w.constant ≡ v.constant) → Home entries constant_of r.constant (set s.views id w) log hs
@@ -140,7 +180,7 @@ module _ {T E : Type 0} (entries : T → List E) (constant_of : T → ℕ) (by :
       → ((j : ℕ) (u : View E) → j ≢ id → get_elem? s.views j ≡ some u → Fits by r.drawn r.served r.log u → Fits by d n log u)
       → ((j : ℕ) (u : View E) → j ≢ id → get_elem? s.views j ≡ some u → 1 ≤ holding w.stage → 1 ≤ holding u.stage → w.at ≢ u.at)
       → R record { words = ws; homes = hs; views = set s.views id w }
-  set_view s r id v w at ws hs d n log wide short authors count light' alive' alone same_constant home fits others tickets =
+  set_view s r id v w at ws hs d n log es as_many wide marks' short authors count light' alive' alone same_constant home fits others tickets =
       let a : ℕ = waiting s.views in let b : ℕ = waiting (set s.views id w) in let x : ℕ = holding v.stage in let y : ℕ = holding w.stage in
       let moves : b + x ≡ a + y = waiting_set s.views id v w at in let was : r.served + a ≡ r.drawn = r.waits in let count' : d + x + r.served ≡ n + r.drawn + y = count in
       let a' : ℕ = weight s.views in let b' : ℕ = weight (set s.views id w) in let x' : ℕ = load v in let y' : ℕ = load w in
@@ -149,10 +189,11 @@ module _ {T E : Type 0} (entries : T → List E) (constant_of : T → ℕ) (by :
         drawn = d;
         served = n;
         log = log;
-        ends = r.ends;
+        ends = es;
         words_are = wide;
         short = short;
-        ends_fit = r.ends_fit;
+        count = as_many ∙ r.count;
+        marks = marks';
         authors = authors;
         waits = let g : n + b ≡ d = omega arith in g;
         weighs = let g : b' ≤ 2 ^ 32 = omega arith in g;
@@ -165,8 +206,8 @@ module _ {T E : Type 0} (entries : T → List E) (constant_of : T → ℕ) (by :
 
   -- the same, where w has no more numbers
   pub moved : (s : St) (r : R s) (id : ℕ) (v w : View E) → get_elem? s.views id ≡ some v
-      → (ws : List ℕ) (hs : Homes) (d n : ℕ) (log : List E)
-      → ws ≡ (d % 2 ^ 64) ∷ (n % 2 ^ 64) ∷ length log ∷ r.ends → length log < 2 ^ 64 → Authored by log
+      → (ws : List ℕ) (hs : Homes) (d n : ℕ) (log : List E) (es : List ℕ) → length es ≡ length r.ends
+      → ws ≡ (d % 2 ^ 64) ∷ (n % 2 ^ 64) ∷ length log ∷ es → ((k : ℕ) → k < length es → Marked (fin r.constant) (set s.views id w) log k (get_or es k 0)) → length log < 2 ^ 64 → Authored by log
       → d + holding v.stage + r.served ≡ n + r.drawn + holding w.stage
       → load w ≤ load v → (1 ≤ alive w.stage → 1 ≤ alive v.stage) → ((k : ℕ) → 1 ≤ alive w.stage → Owns w k → Owns v k)
       → (1 ≤ alive w.stage → w.constant ≡ v.constant) → Home entries constant_of r.constant (set s.views id w) log hs
@@ -174,7 +215,7 @@ module _ {T E : Type 0} (entries : T → List E) (constant_of : T → ℕ) (by :
       → ((j : ℕ) (u : View E) → j ≢ id → get_elem? s.views j ≡ some u → Fits by r.drawn r.served r.log u → Fits by d n log u)
       → ((j : ℕ) (u : View E) → j ≢ id → get_elem? s.views j ≡ some u → 1 ≤ holding w.stage → 1 ≤ holding u.stage → w.at ≢ u.at)
       → R record { words = ws; homes = hs; views = set s.views id w }
-  moved s r id v w at ws hs d n log wide short authors count light' alive' owns = set_view s r id v w at ws hs d n log wide short authors count light' alive' (still_alone s.views id v w at r.pairs alive' owns)
+  moved s r id v w at ws hs d n log es as_many wide marks' short authors count light' alive' owns = set_view s r id v w at ws hs d n log es as_many wide marks' short authors count light' alive' (still_alone s.views id v w at r.pairs alive' owns)
 
   pub set_there : {A : Type 0} (l : List A) (i : ℕ) (a b : A) → get_elem? l i ≡ some a → get_elem? (set l i b) i ≡ some b
   set_there [] i a b e = absurd (some-ne-none a (sym e))
@@ -193,18 +234,48 @@ module _ {T E : Type 0} (entries : T → List E) (constant_of : T → ℕ) (by :
       ))
       home
 
+  -- two views do not have the turn together
+  pub one_turning : (s : St) (r : R s) (i j : ℕ) (u v : View E) → get_elem? s.views i ≡ some u → get_elem? s.views j ≡ some v → i ≢ j → turning u.stage ≡ 1 → 1 ≤ holding v.stage → v.at ≡ r.served → ⊥
+  one_turning s r i j u v ei ej ne t h is = (r.pairs i j u v ei ej ne).0 (holds_turn u.stage t) h (((r.each i u ei).turn (turn_now u.stage (let g : 1 ≤ turning u.stage = omega arith in g))).0 ∙ sym is)
+
+  abbrev pub Unseen : List (View E) → ℕ → ℕ → Type 0
+  Unseen views j p = (i : ℕ) (x : View E) → i ≢ j → get_elem? views i ≡ some x → (length x.seen ≤ p) × (length x.told ≤ p)
+
+  -- what is pending stays, where the view that changes noted nothing
+  pub stay_marks : (s : St) (r : R s) (id : ℕ) (v w : View E) → get_elem? s.views id ≡ some v → noting v.stage ≡ 0
+      → ((p j : ℕ) (u : View E) → j ≢ id → get_elem? s.views j ≡ some u → noting u.stage ≡ 1 → Unseen s.views j p → (length w.seen ≤ p) × (length w.told ≤ p))
+      → (k : ℕ) → k < length r.ends → Marked (fin r.constant) (set s.views id w) r.log k (get_or r.ends k 0)
+  stay_marks s r id v w at none' bounds k h = let m = r.marks k h in (
+    m.0,
+    λ z p e. let q = m.1 z p e in let j : ℕ = q.at in let u : View E = q.view in
+        let ne : j ≢ id = λ is. let same : u ≡ v = some-injective u v (sym q.there ∙ ap (get_elem? s.views) is ∙ at) in let e' : noting u.stage ≡ noting v.stage = ap (λ (x : View E). noting x.stage) same in let one : noting u.stage ≡ 1 = q.notes in omega arith in
+        let b = bounds p j u ne q.there q.notes q.unseen in record {
+          at = j;
+          view = u;
+          there = set_else s.views id j w ne ∙ q.there;
+          notes = q.notes;
+          place = q.place;
+          unmarked = q.unmarked;
+          unseen = λ i x n ei. ⊎_elim (λ t. subst (λ (y : View E). (length y.seen ≤ p) × (length y.told ≤ p)) t.1 b) (λ t. q.unseen i x n t.1) (at_set s.views id i w x ei);
+        },
+  )
+
+  -- where the view has seen and was told no more
+  pub marks_same : (s : St) (r : R s) (id : ℕ) (v w : View E) → get_elem? s.views id ≡ some v → noting v.stage ≡ 0 → w.seen ≡ v.seen → w.told ≡ v.told → (k : ℕ) → k < length r.ends → Marked (fin r.constant) (set s.views id w) r.log k (get_or r.ends k 0)
+  marks_same s r id v w at none' seen told = stay_marks s r id v w at none' (λ p j u ne e n o. let ab = o id v (λ x. ne (sym x)) at in (subst (λ (l : List E). length l ≤ p) (sym seen) ab.0, subst (λ (l : List E). length l ≤ p) (sym told) ab.1))
+
   pub draws : (n id : ℕ) (me : M) → me.0.stage ≡ Idle → Allows R n id me 0 (λ x. (x + 1) % 2 ^ 64) (drew (step n 0 1 0 none) me)
   draws n id me st s r wide at _ = let v : View E = me.0 in let w : View E = record v { stage = Waiting; at = r.drawn } in let f = r.each id v at in
       let idle : holding v.stage ≡ 0 = ap holding st in let lives : 1 ≤ alive v.stage = subst (λ (z : Stage). 1 ≤ alive z) (sym st) (le_refl 1) in let was = r.waits in (
         w,
         keeps,
         tt,
-        moved s r id v w at (set s.words 0 ((get_or s.words 0 0 + 1) % 2 ^ 64)) s.homes (r.drawn + 1) r.served r.log
+        moved s r id v w at (set s.words 0 ((get_or s.words 0 0 + 1) % 2 ^ 64)) s.homes (r.drawn + 1) r.served r.log r.ends refl
             (ap (λ (ws : List ℕ). set ws 0 ((get_or ws 0 0 + 1) % 2 ^ 64)) r.words_are ∙ ap (λ (k : ℕ). k ∷ (r.served % 2 ^ 64) ∷ length r.log ∷ r.ends) (next_mod r.drawn (2 ^ 64)))
-            r.short r.authors (omega arith) (subst (λ (z : Stage). load w ≤ alive z * (1 + (v.until - v.from))) (sym st) (le_refl _)) (λ _. lives) (λ k _ o. o) (λ _. refl)
+            (marks_same s r id v w at (ap noting st) refl refl) r.short r.authors (omega arith) (subst (λ (z : Stage). load w ≤ alive z * (1 + (v.until - v.from))) (sym st) (le_refl _)) (λ _. lives) (λ k _ o. o) (λ _. refl)
             (home_stays r.constant s.views r.log s.homes id v w at (sym (ap turning st)) r.home)
-            record { front = f.front; told = f.told; ticket = λ _. (omega arith, omega arith); turn = λ h. absurd (omega arith); mine = λ _. f.mine lives; spare = λ _. f.spare lives; kin = λ _. f.kin lives; guests = λ _. f.guests lives; range = λ _. f.range lives; own = λ _. f.own lives; fresh = λ _. f.fresh lives }
-            (λ j u ne e g. record { front = g.front; told = g.told; ticket = λ h. ((g.ticket h).0, let b = (g.ticket h).1 in omega arith); turn = g.turn; mine = g.mine; spare = g.spare; kin = g.kin; guests = g.guests; range = g.range; own = g.own; fresh = g.fresh })
+            record { front = f.front; told = f.told; known = f.known; ticket = λ _. (omega arith, omega arith); turn = λ h. absurd (omega arith); mine = λ _. f.mine lives; spare = λ _. f.spare lives; kin = λ _. f.kin lives; guests = λ _. f.guests lives; range = λ _. f.range lives; own = λ _. f.own lives; fresh = λ _. f.fresh lives }
+            (λ j u ne e g. record { front = g.front; told = g.told; known = g.known; ticket = λ h. ((g.ticket h).0, let b = (g.ticket h).1 in omega arith); turn = g.turn; mine = g.mine; spare = g.spare; kin = g.kin; guests = g.guests; range = g.range; own = g.own; fresh = g.fresh })
             (λ j u ne e _ h q. let b = ((r.each j u e).ticket h).1 in let q' : r.drawn ≡ u.at = q in omega arith),
         (r.drawn, ap (λ (ws : List ℕ). get_or ws 0 0) r.words_are, refl, refl),
       )
@@ -218,12 +289,12 @@ module _ {T E : Type 0} (entries : T → List E) (constant_of : T → ℕ) (by :
   Goes s k id me then x = (w : View E) × (a : Act (Option T)) × Valid s.homes me.1 a × R (stepped s k x id me.1 w a) × then (get_or s.words k 0) (w, carried_after me.1 a)
 
   -- nothing changes
-  pub stays : (s : St) (r : R s) (id : ℕ) (me : M) (then : ℕ → M → Type 0) → get_elem? s.views id ≡ some me.0 → then (get_or s.words 1 0) me → Goes s 1 id me then (get_or s.words 1 0)
-  stays s r id me then at told = let f = r.each id me.0 at in (
+  pub stays : (s : St) (r : R s) (id : ℕ) (me : M) (then : ℕ → M → Type 0) → get_elem? s.views id ≡ some me.0 → noting me.0.stage ≡ 0 → then (get_or s.words 1 0) me → Goes s 1 id me then (get_or s.words 1 0)
+  stays s r id me then at none' told = let f = r.each id me.0 at in (
     me.0,
     keeps,
     tt,
-    moved s r id me.0 me.0 at (set s.words 1 (get_or s.words 1 0)) s.homes r.drawn r.served r.log (ap (λ (ws : List ℕ). set ws 1 (get_or ws 1 0)) r.words_are) r.short r.authors (omega arith) (le_refl _) (λ a. a) (λ k _ o. o) (λ _. refl)
+    moved s r id me.0 me.0 at (set s.words 1 (get_or s.words 1 0)) s.homes r.drawn r.served r.log r.ends refl (ap (λ (ws : List ℕ). set ws 1 (get_or ws 1 0)) r.words_are) (marks_same s r id me.0 me.0 at none' refl refl) r.short r.authors (omega arith) (le_refl _) (λ a. a) (λ k _ o. o) (λ _. refl)
         (home_stays r.constant s.views r.log s.homes id me.0 me.0 at refl r.home) f (λ j u ne e g. g)
         (λ j u ne e hw hu. (r.pairs id j me.0 u at e (λ q. ne (sym q))).0 hw hu),
     told,
@@ -248,12 +319,14 @@ module _ {T E : Type 0} (entries : T → List E) (constant_of : T → ℕ) (by :
         w,
         takes 0 (Some x),
         ap (λ (hs : Homes). get_elem? hs 0) h.1,
-        moved s r id v w at (set s.words 1 word) (set s.homes 0 none) r.drawn r.served r.log (ap (λ (ws : List ℕ). set ws 1 (get_or ws 1 0)) r.words_are) r.short r.authors (omega arith)
+        moved s r id v w at (set s.words 1 word) (set s.homes 0 none) r.drawn r.served r.log r.ends refl (ap (λ (ws : List ℕ). set ws 1 (get_or ws 1 0)) r.words_are)
+            (stay_marks s r id v w at (ap noting st) (λ p j u ne e n o. absurd (one_turning s r j id u v e at ne (note_turns u.stage n) holds is))) r.short r.authors (omega arith)
             (subst (λ (z : Stage). load w ≤ alive z * (1 + (v.until - v.from))) (sym st) (le_refl _)) (λ _. lives) (λ k _ o. o) (λ _. refl)
             (inr (ap (λ (hs : Homes). set hs 0 none) h.1, (id, w, set_there s.views id v w at, refl)))
             record {
               front = ([], sym h.2 ∙ sym (append-nil (entries x)));
               told = f.told;
+              known = f.known;
               ticket = λ _. f.ticket holds;
               turn = λ _. (is, h.2);
               mine = λ _. (m.0, ap (of by v.number) h.2 ∙ m.0);
@@ -266,9 +339,9 @@ module _ {T E : Type 0} (entries : T → List E) (constant_of : T → ℕ) (by :
             }
             (λ j u ne e g. g)
             (λ j u ne e hw hu. (r.pairs id j v u at e (λ q. ne (sym q))).0 holds hu),
-        ((λ _. (x, refl, refl, (f.front.0, h.2 ∙ f.front.1), ap (of by v.number) h.2 ∙ m.0, λ k o. ap (of by k) h.2 ∙ f.spare lives k o, h.4 ∙ sym (r.constants id v at lives), subst (Authored by) (sym h.2) r.authors, subst (λ (l : List E). Made by l v.kin) (sym h.2) (f.kin lives).0)), λ miss. absurd (miss hit)),
+        ((λ _. (x, refl, refl, (f.front.0, h.2 ∙ f.front.1), ap (of by v.number) h.2 ∙ m.0, λ k o. ap (of by k) h.2 ∙ f.spare lives k o, h.4 ∙ sym (r.constants id v at lives), subst (Authored by) (sym h.2) r.authors, subst (λ (l : List E). Made by l v.kin) (sym h.2) (f.kin lives).0, (f.known.0, h.2 ∙ f.known.1))), λ miss. absurd (miss hit)),
       ))
-      (λ miss. stays s r id me told at ((λ hit. absurd (miss hit)), λ _. refl))
+      (λ miss. stays s r id me told at (ap noting st) ((λ hit. absurd (miss hit)), λ _. refl))
 
   -- while a view has the turn, the value is out, and no other view has the turn
   is_out : (s : St) (r : R s) (id : ℕ) (v : View E) → get_elem? s.views id ≡ some v → turning v.stage ≡ 1 → s.homes ≡ none ∷ []
@@ -278,10 +351,29 @@ module _ {T E : Type 0} (entries : T → List E) (constant_of : T → ℕ) (by :
       → (y : ℕ) → Allows R n id me 2 (λ z. (z + 1) % 2 ^ 64) (λ z. noted entries by (step n 2 1 0 none) me y)
   notes n id me x e st has adds author room y s r wide at _ = let v : View E = me.0 in let f = r.each id v at in let word : ℕ = get_or s.words 2 0 in
       let holds : 1 ≤ holding v.stage = subst (λ (z : Stage). 1 ≤ holding z) (sym st) (le_refl 1) in let lives : 1 ≤ alive v.stage = subst (λ (z : Stage). 1 ≤ alive z) (sym st) (le_refl 1) in
-      let turns : turning v.stage ≡ 1 = ap turning st in let t = f.turn (turn_now v.stage (let g : 1 ≤ turning v.stage = omega arith in g)) in let here : v.seen ≡ r.log = t.1 in
+      let turns : turning v.stage ≡ 1 = ap turning st in let one : holding v.stage ≡ 1 = ap holding st in let t = f.turn (turn_now v.stage (let g : 1 ≤ turning v.stage = omega arith in g)) in let here : v.seen ≡ r.log = t.1 in
       let log : List E = carried entries me.1 in let is : log ≡ entries x = ap (carried entries) has in let grows : log ≡ r.log ++ e ∷ [] = is ∙ adds ∙ ap (λ (l : List E). l ++ e ∷ []) here in
       let long : length log ≡ length r.log + 1 = ap length grows ∙ length-append r.log (e ∷ []) in let room' : length r.log + 1 < 2 ^ 64 = subst (λ (l : List E). length l + 1 < 2 ^ 64) here room in
-      let m = f.mine lives in let w : View E = record v { seen = log; mine = of by v.number log } in
+      let m = f.mine lives in let w : View E = record v { stage = Noted; place = length v.seen; marked = []; seen = log; mine = of by v.number log } in
+      let longer_by : (old : List E) → StartsWith r.log old → StartsWith log old = λ old q. (q.0 ++ e ∷ [], grows ∙ ap (λ (l : List E). l ++ e ∷ []) q.1 ∙ append_assoc old q.0 (e ∷ [])) in
+      let short_of : (old : List E) → StartsWith r.log old → length old ≤ length r.log = λ old q. let l : length r.log ≡ length old + length q.0 = ap length q.1 ∙ length-append old q.0 in omega arith in
+      let note_marks : (k : ℕ) → k < length r.ends → Marked (fin r.constant) (set s.views id w) log k (get_or r.ends k 0) = λ k h. let old = r.marks k h in (
+        (λ nz. ap (λ (l : List E). fin r.constant l k) grows ∙ laws.stays r.constant r.log (e ∷ []) k (get_or r.ends k 0 - 1) (old.0 nz)),
+        (λ z p fp. ⊎_elim
+            (λ was. let q = old.1 z p was in absurd (dite (ℕ_discrete q.at id)
+            (λ same. let e' : noting v.stage ≡ 1 = subst (λ (x : View E). noting x.stage ≡ 1) (some-injective q.view v (sym q.there ∙ ap (get_elem? s.views) same ∙ at)) q.notes in let e₀ : noting v.stage ≡ 0 = ap noting st in omega arith)
+            (λ other'. one_turning s r q.at id q.view v q.there at other' (note_turns q.view.stage q.notes) holds t.0)))
+            (λ now. record {
+              at = id;
+              view = w;
+              there = set_there s.views id v w at;
+              notes = refl;
+              place = ap length here ∙ sym now;
+              unmarked = refl;
+              unseen = λ i u ne eu. let pl : p ≡ length r.log = now in ⊎_elim (λ tt'. absurd (ne tt'.0)) (λ tt'. let fu = r.each i u tt'.1 in let a = short_of u.seen fu.front in let b = short_of u.told fu.told in (omega arith, omega arith)) (at_set s.views id i w u eu);
+            })
+            (laws.fresh r.constant r.log e k p (ap (λ (l : List E). fin r.constant l k) (sym grows) ∙ fp))),
+      ) in
       let other : (j : ℕ) (u : View E) → j ≢ id → get_elem? s.views j ≡ some u → 1 ≤ alive u.stage → (k : ℕ) → Owns u k → by e ≢ k =
       λ j u ne eu au k o q. (r.pairs id j v u at eu (λ z. ne (sym z))).1 lives au k (inl (sym q ∙ author)) o in
       let mine_not : (k : ℕ) → Has v k → by e ≢ k = λ k o q. f.own lives (subst (Has v) (sym q ∙ author) o) in
@@ -290,27 +382,30 @@ module _ {T E : Type 0} (entries : T → List E) (constant_of : T → ℕ) (by :
         w,
         keeps,
         tt,
-        moved s r id v w at (set s.words 2 ((word + 1) % 2 ^ 64)) s.homes r.drawn r.served log
+        moved s r id v w at (set s.words 2 ((word + 1) % 2 ^ 64)) s.homes r.drawn r.served log r.ends refl
             (ap (λ (ws : List ℕ). set ws 2 ((get_or ws 2 0 + 1) % 2 ^ 64)) r.words_are ∙ ap (λ (k : ℕ). (r.drawn % 2 ^ 64) ∷ (r.served % 2 ^ 64) ∷ k ∷ r.ends) (mod-eq_of_lt room' ∙ sym long))
+            note_marks
             (omega arith) (subst (Authored by) (sym grows) (All-append (λ (e : E). by e < 2 ^ 32) r.log (e ∷ []) r.authors (All-cons (λ (e : E). by e < 2 ^ 32) e [] (subst (λ (n : ℕ). n < 2 ^ 32) (sym author) (f.range lives).0) (All-nil (λ (e : E). by e < 2 ^ 32)))))
-            (omega arith) (le_refl _) (λ a. a) (λ k _ o. o) (λ _. refl)
-            (inr (is_out s r id v at turns, (id, w, set_there s.views id v w at, turns)))
+            (omega arith) (subst (λ (z : Stage). load w ≤ alive z * (1 + (v.until - v.from))) (sym st) (le_refl _)) (λ _. lives) (λ k _ o. o) (λ _. refl)
+            (inr (is_out s r id v at turns, (id, w, set_there s.views id v w at, refl)))
             record {
               front = ([], sym (append-nil log));
-              told = (f.told.0 ++ e ∷ [], grows ∙ ap (λ (l : List E). l ++ e ∷ []) f.told.1 ∙ append_assoc v.told f.told.0 (e ∷ []));
-              ticket = f.ticket;
+              told = longer_by v.told f.told;
+              known = longer_by v.known f.known;
+              ticket = λ _. f.ticket holds;
               turn = λ _. (t.0, refl);
               mine = λ _. (refl, refl);
               spare = λ _ k o. ap (of by k) grows ∙ of_snoc by k r.log e (λ q. f.own lives (subst (Has v) (sym q ∙ author) (inl o))) ∙ f.spare lives k o;
               kin = λ _. (kept, kept);
               guests = λ _. (longer_made v.guests (λ k i. mine_not k (inr (inr i))) (f.guests lives).0, (f.guests lives).1);
-              range = f.range;
-              own = f.own;
-              fresh = f.fresh;
+              range = λ _. f.range lives;
+              own = λ _. f.own lives;
+              fresh = λ _. f.fresh lives;
             }
             (λ j u ne eu g. record {
               front = (g.front.0 ++ e ∷ [], grows ∙ ap (λ (l : List E). l ++ e ∷ []) g.front.1 ∙ append_assoc u.seen g.front.0 (e ∷ []));
-              told = (g.told.0 ++ e ∷ [], grows ∙ ap (λ (l : List E). l ++ e ∷ []) g.told.1 ∙ append_assoc u.told g.told.0 (e ∷ []));
+              told = longer_by u.told g.told;
+              known = longer_by u.known g.known;
               ticket = g.ticket;
               turn = λ h. let hu : 1 ≤ holding u.stage = turn_holds u.stage h in absurd ((r.pairs id j v u at eu (λ z. ne (sym z))).0 holds hu (t.0 ∙ sym (g.turn h).0));
               mine = λ au. (ap (of by u.number) grows ∙ of_snoc by u.number r.log e (other j u ne eu au u.number (inl refl)) ∙ (g.mine au).0, (g.mine au).1);
@@ -325,20 +420,28 @@ module _ {T E : Type 0} (entries : T → List E) (constant_of : T → ℕ) (by :
         (refl, refl, m.1, kept),
       )
 
-  pub passes : (n id : ℕ) (me : M) (x : T) → me.0.stage ≡ Turn → me.1 ≡ (0, Some x) ∷ [] → entries x ≡ me.0.seen → constant_of x ≡ me.0.constant
+  pub passes : (n id : ℕ) (me : M) (x : T) → turning me.0.stage ≡ 1 → (noting me.0.stage ≡ 1 → (k : ℕ) → fin me.0.constant me.0.seen k ≡ Some me.0.place → is_in k me.0.marked ≡ true) → me.1 ≡ (0, Some x) ∷ [] → entries x ≡ me.0.seen → constant_of x ≡ me.0.constant
       → (y : ℕ) → Allows R n id me 1 (λ z. (z + 1) % 2 ^ 64) (λ z. passed (step n 1 1 0 none) me y)
-  passes n id me x st has same alike y s r wide at _ = let v : View E = me.0 in let f = r.each id v at in let word : ℕ = get_or s.words 1 0 in
-      let holds : 1 ≤ holding v.stage = subst (λ (z : Stage). 1 ≤ holding z) (sym st) (le_refl 1) in let lives : 1 ≤ alive v.stage = subst (λ (z : Stage). 1 ≤ alive z) (sym st) (le_refl 1) in
-      let turns : turning v.stage ≡ 1 = ap turning st in let one : holding v.stage ≡ 1 = ap holding st in let t = f.turn (turn_now v.stage (let g : 1 ≤ turning v.stage = omega arith in g)) in
+  passes n id me x turns all has same alike y s r wide at _ = let v : View E = me.0 in let f = r.each id v at in let word : ℕ = get_or s.words 1 0 in
+      let holds : 1 ≤ holding v.stage = holds_turn v.stage turns in let al : alive v.stage ≡ 1 = turn_alive v.stage turns in let lives : 1 ≤ alive v.stage = omega arith in
+      let one : holding v.stage ≡ 1 = turn_one v.stage turns in let t = f.turn (turn_now v.stage (let g : 1 ≤ turning v.stage = omega arith in g)) in
       let w : View E = record v { stage = Idle; at = 0 } in let out = is_out s r id v at turns in
       let later : (j : ℕ) (u : View E) → j ≢ id → get_elem? s.views j ≡ some u → Fits by r.drawn r.served r.log u → 1 ≤ holding u.stage → r.served + 1 ≤ u.at =
-      λ j u ne eu g hu. let a = (g.ticket hu).0 in let b : v.at ≢ u.at = (r.pairs id j v u at eu (λ q. ne (sym q))).0 holds hu in let c : v.at ≡ r.served = t.0 in omega arith in (
+      λ j u ne eu g hu. let a = (g.ticket hu).0 in let b : v.at ≢ u.at = (r.pairs id j v u at eu (λ q. ne (sym q))).0 holds hu in let c : v.at ≡ r.served = t.0 in omega arith in
+      let pass_marks : (k : ℕ) → k < length r.ends → Marked (fin r.constant) (set s.views id w) r.log k (get_or r.ends k 0) = λ k h. let old = r.marks k h in (
+        old.0,
+        λ z p fp. let q = old.1 z p fp in absurd (dite (ℕ_discrete q.at id)
+            (λ here. let e' : q.view ≡ v = some-injective q.view v (sym q.there ∙ ap (get_elem? s.views) here ∙ at) in let no' : is_in k v.marked ≡ false = subst (λ (u : View E). is_in k u.marked ≡ false) e' q.unmarked in
+            let yes' : is_in k v.marked ≡ true = all (subst (λ (u : View E). noting u.stage ≡ 1) e' q.notes) k (ap (λ (c : ℕ). fin c v.seen k) (r.constants id v at lives) ∙ ap (λ (l : List E). fin r.constant l k) t.1 ∙ fp ∙ ap Some (sym q.place ∙ ap (λ (u : View E). u.place) e')) in
+            let no'' : true ≡ false = sym yes' ∙ no' in cc)
+            (λ other'. one_turning s r q.at id q.view v q.there at other' (note_turns q.view.stage q.notes) holds t.0)),
+      ) in (
         w,
         gives,
         tt,
-        moved s r id v w at (set s.words 1 ((word + 1) % 2 ^ 64)) (put_back s.homes me.1) r.drawn (r.served + 1) r.log
+        moved s r id v w at (set s.words 1 ((word + 1) % 2 ^ 64)) (put_back s.homes me.1) r.drawn (r.served + 1) r.log r.ends refl
             (ap (λ (ws : List ℕ). set ws 1 ((get_or ws 1 0 + 1) % 2 ^ 64)) r.words_are ∙ ap (λ (k : ℕ). (r.drawn % 2 ^ 64) ∷ k ∷ length r.log ∷ r.ends) (next_mod r.served (2 ^ 64)))
-            r.short r.authors (omega arith) (subst (λ (z : Stage). load w ≤ alive z * (1 + (v.until - v.from))) (sym st) (le_refl _)) (λ _. lives) (λ k _ o. o) (λ _. refl)
+            pass_marks r.short r.authors (omega arith) (subst (λ (n : ℕ). load w ≤ n * (1 + (v.until - v.from))) (sym al) (le_refl _)) (λ _. lives) (λ k _ o. o) (λ _. refl)
             (inl (
               x,
               ap (put_back s.homes) has ∙ ap (λ (hs : Homes). set hs 0 (some (Some x))) out,
@@ -348,10 +451,11 @@ module _ {T E : Type 0} (entries : T → List E) (constant_of : T → ℕ) (by :
                   (at_set s.views id j w u e),
               alike ∙ r.constants id v at lives,
             ))
-            record { front = f.front; told = f.told; ticket = λ h. absurd (omega arith); turn = λ h. absurd (omega arith); mine = λ _. f.mine lives; spare = λ _. f.spare lives; kin = λ _. f.kin lives; guests = λ _. f.guests lives; range = λ _. f.range lives; own = λ _. f.own lives; fresh = λ _. f.fresh lives }
+            record { front = f.front; told = f.told; known = f.known; ticket = λ h. absurd (omega arith); turn = λ h. absurd (omega arith); mine = λ _. f.mine lives; spare = λ _. f.spare lives; kin = λ _. f.kin lives; guests = λ _. f.guests lives; range = λ _. f.range lives; own = λ _. f.own lives; fresh = λ _. f.fresh lives }
             (λ j u ne eu g. record {
               front = g.front;
               told = g.told;
+              known = g.known;
               ticket = λ h. (later j u ne eu g h, (g.ticket h).1);
               turn = λ h. let hu : 1 ≤ holding u.stage = turn_holds u.stage h in absurd ((r.pairs id j v u at eu (λ z. ne (sym z))).0 holds hu (t.0 ∙ sym (g.turn h).0));
               mine = g.mine;
@@ -376,7 +480,7 @@ module _ {T E : Type 0} (entries : T → List E) (constant_of : T → ℕ) (by :
         w,
         gives,
         tt,
-        moved s r id v w at (set s.words 1 word) (put_back s.homes me.1) r.drawn r.served r.log (ap (λ (ws : List ℕ). set ws 1 (get_or ws 1 0)) r.words_are)
+        moved s r id v w at (set s.words 1 word) (put_back s.homes me.1) r.drawn r.served r.log r.ends refl (ap (λ (ws : List ℕ). set ws 1 (get_or ws 1 0)) r.words_are) (marks_same s r id v w at (ap noting st) refl refl)
             r.short r.authors (omega arith) (subst (λ (z : Stage). load w ≤ alive z * (1 + (v.until - v.from))) (sym st) (le_refl _)) (λ _. lives) (λ k _ o. o) (λ _. refl)
             (inl (
               x,
@@ -387,7 +491,7 @@ module _ {T E : Type 0} (entries : T → List E) (constant_of : T → ℕ) (by :
                   (at_set s.views id j w u e),
               alike ∙ r.constants id v at lives,
             ))
-            record { front = f.front; told = f.told; ticket = λ _. f.ticket holds; turn = λ _. t; mine = λ _. f.mine lives; spare = λ _. f.spare lives; kin = λ _. f.kin lives; guests = λ _. f.guests lives; range = λ _. f.range lives; own = λ _. f.own lives; fresh = λ _. f.fresh lives }
+            record { front = f.front; told = f.told; known = f.known; ticket = λ _. f.ticket holds; turn = λ _. t; mine = λ _. f.mine lives; spare = λ _. f.spare lives; kin = λ _. f.kin lives; guests = λ _. f.guests lives; range = λ _. f.range lives; own = λ _. f.own lives; fresh = λ _. f.fresh lives }
             (λ j u ne eu g. g)
             (λ j u ne eu hw hu. (r.pairs id j v u at eu (λ q. ne (sym q))).0 holds hu),
         (refl, refl),
@@ -401,3 +505,83 @@ module _ {T E : Type 0} (entries : T → List E) (constant_of : T → ℕ) (by :
       let lives : 1 ≤ alive v.stage = subst (λ (z : Stage). 1 ≤ alive z) (sym st) (le_refl 1) in
       let h = is_home s r id v at (turn_holds v.stage now) (ap turning st) t.0 in
       (h.0, end.4 0 (Some h.0) (ap (λ (hs : Homes). get_elem? hs 0) h.1), h.2 ∙ sym t.1, (f.mine lives).1, h.4 ∙ sym (r.constants id v at lives), (f.kin lives).1)
+
+  set_four : (a b c k n : ℕ) (es : List ℕ) → set (a ∷ b ∷ c ∷ es) (k + 3) n ≡ a ∷ b ∷ c ∷ set es k n
+  set_four a b c k n es = ap (λ (i : ℕ). set (a ∷ b ∷ c ∷ es) i n) (let g : k + 3 ≡ suc (suc (suc k)) = omega arith in g)
+
+  get_four : (a b c k : ℕ) (es : List ℕ) → get_or (a ∷ b ∷ c ∷ es) (k + 3) 0 ≡ get_or es k 0
+  get_four a b c k es = ap (λ (i : ℕ). get_or (a ∷ b ∷ c ∷ es) i 0) (let g : k + 3 ≡ suc (suc (suc k)) = omega arith in g)
+
+  -- the end of the word k is marked after it was noted
+  pub marks_one : (n id : ℕ) (me : M) (k : ℕ) → me.0.stage ≡ Noted → fin me.0.constant me.0.seen k ≡ Some me.0.place
+      → (y : ℕ) → Allows R n id me (k + 3) (λ _. me.0.place + 1) (λ _. marked_one (step n (k + 3) (me.0.place + 1) 0 none) me y)
+  marks_one n id me k st ends y s r wide at _ = let v : View E = me.0 in let f = r.each id v at in let new : ℕ = v.place + 1 in
+      let holds : 1 ≤ holding v.stage = subst (λ (z : Stage). 1 ≤ holding z) (sym st) (le_refl 1) in let turns : turning v.stage ≡ 1 = ap turning st in let lives : 1 ≤ alive v.stage = subst (λ (z : Stage). 1 ≤ alive z) (sym st) (le_refl 1) in
+      let t = f.turn (turn_now v.stage (let g : 1 ≤ turning v.stage = omega arith in g)) in let one : noting v.stage ≡ 1 = ap noting st in
+      let ended : fin r.constant v.seen k ≡ Some v.place = ap (λ (c : ℕ). fin c v.seen k) (sym (r.constants id v at lives)) ∙ ends in
+      let w : View E = record v { marked = (k + 3 - 3) ∷ v.marked } in let back : k + 3 - 3 ≡ k = omega arith in
+      let marks' : (i : ℕ) → i < length (set r.ends k new) → Marked (fin r.constant) (set s.views id w) r.log i (get_or (set r.ends k new) i 0) = λ i h. let h' : i < length r.ends = subst (λ (m : ℕ). i < m) (length-set r.ends k new) h in
+      dite (ℕ_discrete i k)
+      (λ here. let g : get_or (set r.ends k new) i 0 ≡ new = ap (λ (j : ℕ). get_or (set r.ends k new) j 0) here ∙ get_or-set_same r.ends k new 0 (subst (λ (j : ℕ). j < length r.ends) here h') in
+      ((λ _. ap (λ (l : List E). fin r.constant l i) (sym t.1) ∙ ap (fin r.constant v.seen) here ∙ ended ∙ ap Some (let q : v.place ≡ new - 1 = omega arith in q ∙ ap (λ (j : ℕ). j - 1) (sym g))), λ z. absurd (omega arith)))
+      (λ other'. let g : get_or (set r.ends k new) i 0 ≡ get_or r.ends i 0 = get_or-set_other r.ends k i new 0 other' in let old = r.marks i h' in
+      subst (Marked (fin r.constant) (set s.views id w) r.log i) (sym g) (
+        old.0,
+        λ z p fp. let q = old.1 z p fp in dite (ℕ_discrete q.at id)
+            (λ me'. let e' : q.view ≡ v = some-injective q.view v (sym q.there ∙ ap (get_elem? s.views) me' ∙ at) in record {
+              at = id;
+              view = w;
+              there = set_there s.views id v w at;
+              notes = one;
+              place = sym (ap (λ (u : View E). u.place) e') ∙ q.place;
+              unmarked = ap (λ (b : Bool). b || is_in i v.marked) (ne_eqb i (k + 3 - 3) (λ x. other' (x ∙ back))) ∙ subst (λ (u : View E). is_in i u.marked ≡ false) e' q.unmarked;
+              unseen = λ j u ne eu. ⊎_elim (λ x. absurd (ne x.0)) (λ x. q.unseen j u (λ z'. ne (z' ∙ me')) x.1) (at_set s.views id j w u eu);
+            })
+            (λ no'. absurd (one_turning s r q.at id q.view v q.there at no' (note_turns q.view.stage q.notes) holds t.0)),
+      )) in (
+        w,
+        keeps,
+        tt,
+        moved s r id v w at (set s.words (k + 3) new) s.homes r.drawn r.served r.log (set r.ends k new) (length-set r.ends k new)
+            (ap (λ (ws : List ℕ). set ws (k + 3) new) r.words_are ∙ set_four (r.drawn % 2 ^ 64) (r.served % 2 ^ 64) (length r.log) k new r.ends) marks' r.short r.authors (omega arith) (le_refl _) (λ a. a) (λ i _ o. o) (λ _. refl)
+            (home_stays r.constant s.views r.log s.homes id v w at refl r.home)
+            record { front = f.front; told = f.told; known = f.known; ticket = f.ticket; turn = f.turn; mine = f.mine; spare = f.spare; kin = f.kin; guests = f.guests; range = f.range; own = f.own; fresh = f.fresh } (λ j u ne e g. g)
+            (λ j u ne e hw hu. (r.pairs id j v u at e (λ q. ne (sym q))).0 holds hu),
+        (refl, refl),
+      )
+
+  -- what an end word tells without the lock
+  pub loads : (n id : ℕ) (me : M) (k : ℕ) → me.0.stage ≡ Idle → (s : St) → (r : R s) → k < length r.ends → length s.homes ≡ n → get_elem? s.views id ≡ some me.0
+      → Goes s (k + 3) id me (loaded fin (step n (k + 3) 0 0 none) me) (get_or s.words (k + 3) 0)
+  loads n id me k st s r near wide at = let v : View E = me.0 in let f = r.each id v at in let word : ℕ = get_or s.words (k + 3) 0 in let back : k + 3 - 3 ≡ k = omega arith in let told = loaded fin (step n (k + 3) 0 0 none) me in
+      let idle : holding v.stage ≡ 0 = ap holding st in let lives : 1 ≤ alive v.stage = subst (λ (z : Stage). 1 ≤ alive z) (sym st) (le_refl 1) in let same_constant : v.constant ≡ r.constant = r.constants id v at lives in
+      let found : word ≡ get_or r.ends k 0 = ap (λ (ws : List ℕ). get_or ws (k + 3) 0) r.words_are ∙ get_four (r.drawn % 2 ^ 64) (r.served % 2 ^ 64) (length r.log) k r.ends in
+      let m = r.marks k near in
+      let same_words : set s.words (k + 3) word ≡ s.words = set_same s.words (k + 3) in
+      let goes : (w : View E) → w.stage ≡ v.stage → w.seen ≡ v.seen → w.told ≡ v.told → load w ≤ load v → (1 ≤ alive w.stage → 1 ≤ alive v.stage) → ((i : ℕ) → 1 ≤ alive w.stage → Owns w i → Owns v i) → (1 ≤ alive w.stage → w.constant ≡ v.constant) → Fits by r.drawn r.served r.log w
+      → told word (w, me.1) → Goes s (k + 3) id me told word = λ w ws wn wt wl wa wo wc wf wtold. (
+        w,
+        keeps,
+        tt,
+        moved s r id v w at (set s.words (k + 3) word) s.homes r.drawn r.served r.log r.ends refl (same_words ∙ r.words_are)
+            (marks_same s r id v w at (ap noting st) wn wt) r.short r.authors
+            (let g : holding w.stage ≡ holding v.stage = ap holding ws in omega arith) wl wa wo wc (home_stays r.constant s.views r.log s.homes id v w at (ap turning ws) r.home) wf (λ j u ne e g. g)
+            (λ j u ne e hw hu. let g : holding w.stage ≡ holding v.stage = ap holding ws in absurd (omega arith)),
+        wtold,
+      ) in
+      dite (ℕ_discrete word 0)
+      (λ zero'. goes v refl refl refl (le_refl _) (λ a. a) (λ i _ o. o) (λ _. refl) f (
+        (λ nz. absurd (nz zero')),
+        (λ _. (
+          refl,
+          ap (fin v.constant v.seen) back ∙ unseen (fin v.constant v.seen k) (λ p e. let here : fin r.constant v.seen k ≡ Some p = ap (λ (c : ℕ). fin c v.seen k) (sym same_constant) ∙ e in
+              let log' : fin r.constant r.log k ≡ Some p = ap (λ (l : List E). fin r.constant l k) f.front.1 ∙ laws.stays r.constant v.seen f.front.0 k p here in
+              let q = m.1 (sym found ∙ zero') p log' in let ne : id ≢ q.at = λ x. let e' : v ≡ q.view = some-injective v q.view (sym at ∙ ap (get_elem? s.views) x ∙ q.there) in let a : noting v.stage ≡ noting q.view.stage = ap (λ (u : View E). noting u.stage) e' in
+              let b : noting v.stage ≡ 0 = ap noting st in let c : noting q.view.stage ≡ 1 = q.notes in omega arith in
+              let low : length v.seen ≤ p = (q.unseen id v ne at).0 in let high : p < length v.seen = laws.within r.constant v.seen k p here in omega arith),
+        )),
+        refl,
+      ))
+      (λ more. goes (record v { known = r.log }) refl refl refl (le_refl _) (λ a. a) (λ i _ o. o) (λ _. refl)
+      record { front = f.front; told = f.told; known = ([], sym (append-nil r.log)); ticket = f.ticket; turn = f.turn; mine = f.mine; spare = f.spare; kin = f.kin; guests = f.guests; range = f.range; own = f.own; fresh = f.fresh }
+      ((λ _. (refl, ap (fin v.constant r.log) back ∙ ap (λ (c : ℕ). fin c r.log k) same_constant ∙ m.0 (λ z. more (found ∙ z)) ∙ ap (λ (j : ℕ). Some (j - 1)) (sym found))), (λ z. absurd (more z)), refl))

@@ -4,7 +4,7 @@ use Rattle.atomic_table.specs.declared.shared.Seat.{Seat}
 use Rattle.count_lock.specs.declared.kept.Kept.{Ghosts}
 use Rattle.count_lock.specs.declared.pass.Pass.{Pass}
 use Rattle.count_lock.specs.declared.lock.CountLock.{CountLock}
-use Rattle.count_lock.specs.declared.view.Stage.TheVariants.{Idle, Turn}
+use Rattle.count_lock.specs.declared.view.Stage.TheVariants.{Idle, Turn, Noted}
 use Rattle.count_lock.specs.declared.view.Kin.{Kin}
 use Rattle.count_lock.specs.Rule.{of, Authored, Made, family}
 
@@ -25,6 +25,17 @@ module _ {T E : Type 0} {g : Ghosts T E} where
 
   abbrev pub mine : Pass T E g → List E
   mine p = p.seat.me.0.mine
+
+  -- a beginning of the history in which the ends stand that the pass loaded
+  abbrev pub known : Pass T E g → List E
+  known p = p.seat.me.0.known
+
+  -- where its entry stands that it noted, and the words that it marked as ended there
+  abbrev pub place : Pass T E g → ℕ
+  place p = p.seat.me.0.place
+
+  abbrev pub marked : Pass T E g → List ℕ
+  marked p = p.seat.me.0.marked
 
   -- the passes that were joined into it
   abbrev pub kin : Pass T E g → List (Kin E)
@@ -69,6 +80,11 @@ module _ {T E : Type 0} {g : Ghosts T E} where
 
   pub record HasTurn (p : Pass T E g) : Type 0 where
     pub stage : p.seat.me.0.stage ≡ Turn
+    pub out : p.seat.me.1 ≡ (0, None) ∷ []
+
+  -- it has the turn, and its entry is in the history
+  pub record HasNoted (p : Pass T E g) : Type 0 where
+    pub stage : p.seat.me.0.stage ≡ Noted
     pub out : p.seat.me.1 ≡ (0, None) ∷ []
 
   -- of the list, `mine` is what has the pass's number, what each of its kin made has that one's, no entry has a spare number, and all

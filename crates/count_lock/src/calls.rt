@@ -1,13 +1,13 @@
 //! The calls of the lock, of a pass and of the value that is out.
-ghost use Rattle.std.specs.Prelude.{◌≡◌, ◌+◌, ◌-◌, ◌/◌, ◌^◌, ◌<◌, ◌≤◌, ℕ, [], ◌∷◌, ◌++◌, length, IfOk, IfErr, MatchResult, Some, None};
+ghost use Rattle.std.specs.Prelude.{◌≡◌, true, IfSome, IfNone, ◌+◌, ◌-◌, ◌/◌, ◌^◌, ◌<◌, ◌≤◌, ℕ, [], ◌∷◌, ◌++◌, length, IfOk, IfErr, MatchResult, Some, None};
 ghost use Rattle.std.specs.Borrow.{sem};
 ghost use Rattle.count_lock.specs.Lent.{LendsValue};
-ghost use Rattle.count_lock.specs.Rule.{StartsWith, longer, of, Made, Turned};
+ghost use Rattle.count_lock.specs.Rule.{StartsWith, longer, of, is_in, Made, Turned};
 ghost use Rattle.count_lock.specs.declared.view.Stage.TheVariants.{Idle, Turn};
-ghost use Rattle.count_lock.specs.Passes.{constant, constant_of, words_of, seen, mine, kin, family_of, number, first_spare, end_spare, IsSameSeat, IsPassOf, IsSamePass, IsResting, HasTurn, IsUnsplit, Accounts};
+ghost use Rattle.count_lock.specs.Passes.{constant, constant_of, words_of, seen, known, place, marked, mine, kin, family_of, number, first_spare, end_spare, IsSameSeat, IsPassOf, IsSamePass, IsResting, HasTurn, HasNoted, IsUnsplit, Accounts};
 
 use crate::bell::Bells;
-use crate::held::Held;
+use crate::held::{Held, Noted};
 use crate::kept::Kept;
 use crate::lock::CountLock;
 use crate::owner::Owner;
@@ -228,7 +228,7 @@ impl<T: Kept> CountLock<T> {
         requires rests { IsResting pass.old }
         ensures pass { IsSamePass pass.old pass.new × HasTurn pass.new }
         ensures value { (T.entries result.value ≡ seen pass.new) × (T.constant result.value ≡ constant pass.new) }
-        ensures seen { StartsWith (seen pass.new) (seen pass.old) }
+        ensures seen { StartsWith (seen pass.new) (seen pass.old) × StartsWith (seen pass.new) (known pass.old) }
         ensures mine { (mine pass.new ≡ mine pass.old) × (kin pass.new ≡ kin pass.old) }
         ensures accounts { Accounts T.by pass.new (seen pass.new) }
         ensures unsplit { IsUnsplit pass.old → seen pass.new ≡ mine pass.new }
@@ -237,6 +237,19 @@ impl<T: Kept> CountLock<T> {
         Held {
             value: self.take(&mut pass.seat),
         }
+    }
+
+    /// The place of the entry that ended a word, where that was marked. It waits for nobody and takes no turn: where it finds none,
+    /// no entry that the pass has seen ends the word.
+    pub fn ended(&self, pass: &mut Pass<T>, word: u32) -> Option<u64>
+        requires lock { IsPassOf self.now pass.old × IsResting pass.old }
+        requires word { word < words_of self.now }
+        ensures pass { IsSamePass pass.old pass.new × IsResting pass.new }
+        ensures same { (seen pass.new ≡ seen pass.old) × (mine pass.new ≡ mine pass.old) × (kin pass.new ≡ kin pass.old) }
+        ensures some { IfSome result (λ p. T.fin (constant pass.old) (known pass.new) word ≡ Some p) }
+        ensures none { IfNone result ((known pass.new ≡ known pass.old) × (T.fin (constant pass.old) (seen pass.old) word ≡ None)) }
+    {
+        self.load(&mut pass.seat, word)
     }
 
     /// Waits for its turn, and ends the lock.
@@ -262,10 +275,11 @@ impl<T: Kept> CountLock<T> {
 }
 
 impl<T: Kept> Held<T> {
-    /// The value stands for one entry more.
+    /// The value stands for one entry more, which ends no word.
     pub fn release(self, lock: &CountLock<T>, pass: &mut Pass<T>, entry: T::Entry)
         requires lock { IsPassOf lock.now pass.old × HasTurn pass.old }
         requires entry { (T.entries self.value ≡ seen pass.old ++ entry ∷ []) × (T.by entry ≡ number pass.old) × (T.constant self.value ≡ constant pass.old) }
+        requires plain { (k : ℕ) → T.fin (constant pass.old) (seen pass.old ++ entry ∷ []) k ≡ Some (length (seen pass.old)) → ⊥ }
         requires room { length (seen pass.old) + 1 < 2 ^ 64 }
         ensures pass { IsSamePass pass.old pass.new × IsResting pass.new }
         ensures seen { (seen pass.new ≡ seen pass.old ++ entry ∷ []) × (mine pass.new ≡ mine pass.old ++ entry ∷ []) }
@@ -288,6 +302,61 @@ impl<T: Kept> Held<T> {
         ensures accounts { Accounts T.by pass.old (seen pass.old) → Accounts T.by pass.new (seen pass.new) }
     {
         let Held { value } = self;
+        lock.put(&mut pass.seat, value);
+        let served = lock.pass_on(&mut pass.seat);
+        lock.wake_next(served);
+    }
+
+    /// The value stands for one entry more, which is the last of the history now. The pass keeps the turn.
+    pub fn note(self, lock: &CountLock<T>, pass: &mut Pass<T>, entry: T::Entry) -> Noted<T>
+        requires lock { IsPassOf lock.now pass.old × HasTurn pass.old }
+        requires entry { (T.entries self.value ≡ seen pass.old ++ entry ∷ []) × (T.by entry ≡ number pass.old) × (T.constant self.value ≡ constant pass.old) }
+        requires room { length (seen pass.old) + 1 < 2 ^ 64 }
+        ensures pass { IsSamePass pass.old pass.new × HasNoted pass.new × (place pass.new ≡ length (seen pass.old)) × (marked pass.new ≡ []) }
+        ensures value { result.value ≡ self.value }
+        ensures seen { (seen pass.new ≡ seen pass.old ++ entry ∷ []) × (mine pass.new ≡ mine pass.old ++ entry ∷ []) }
+        ensures kin { kin pass.new ≡ kin pass.old }
+        ensures accounts { Accounts T.by pass.old (seen pass.old) → Accounts T.by pass.new (seen pass.new) }
+    {
+        let Held { value } = self;
+        let seat = &mut pass.seat;
+        lock.put(seat, value);
+        lock.note(seat);
+        Noted {
+            value: lock.take(seat),
+        }
+    }
+}
+
+impl<T: Kept> Noted<T> {
+    pub fn value(&self) -> &T
+        ensures { result.now ≡ self.now.value }
+    {
+        &self.value
+    }
+
+    /// Marks a word as ended by the entry.
+    pub fn mark(&self, lock: &CountLock<T>, pass: &mut Pass<T>, word: u32, at: u64)
+        requires lock { IsPassOf lock.now pass.old × HasNoted pass.old }
+        requires word { (word < words_of lock.now) × (at ≡ place pass.old) × (at + 1 < 2 ^ 64) }
+        requires ends { T.fin (constant pass.old) (seen pass.old) word ≡ Some at }
+        ensures pass { IsSamePass pass.old pass.new × HasNoted pass.new }
+        ensures marked { (place pass.new ≡ place pass.old) × (marked pass.new ≡ word ∷ marked pass.old) }
+        ensures same { (seen pass.new ≡ seen pass.old) × (mine pass.new ≡ mine pass.old) × (kin pass.new ≡ kin pass.old) }
+    {
+        lock.mark(&mut pass.seat, word, at);
+    }
+
+    /// Ends the turn, once each word is marked that the entry ends.
+    pub fn release(self, lock: &CountLock<T>, pass: &mut Pass<T>)
+        requires lock { IsPassOf lock.now pass.old × HasNoted pass.old }
+        requires value { (T.entries self.value ≡ seen pass.old) × (T.constant self.value ≡ constant pass.old) }
+        requires marked { (k : ℕ) → T.fin (constant pass.old) (seen pass.old) k ≡ Some (place pass.old) → is_in k (marked pass.old) ≡ true }
+        ensures pass { IsSamePass pass.old pass.new × IsResting pass.new }
+        ensures same { (seen pass.new ≡ seen pass.old) × (mine pass.new ≡ mine pass.old) × (kin pass.new ≡ kin pass.old) }
+        ensures accounts { Accounts T.by pass.old (seen pass.old) → Accounts T.by pass.new (seen pass.new) }
+    {
+        let Noted { value } = self;
         lock.put(&mut pass.seat, value);
         let served = lock.pass_on(&mut pass.seat);
         lock.wake_next(served);

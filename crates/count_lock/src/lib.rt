@@ -16,7 +16,7 @@ mod steps;
 mod tests;
 mod view;
 
-pub use held::Held;
+pub use held::{Held, Noted};
 pub use kept::Kept;
 pub use lock::CountLock;
 pub use owner::Owner;

@@ -1,5 +1,5 @@
 //! What each step tells. These types are for the proofs alone.
-ghost use Rattle.count_lock.specs.Rule.{drew, looked, noted, passed, laid, settled, attested, left_half, right_half, joined, spent_view};
+ghost use Rattle.count_lock.specs.Rule.{drew, looked, noted, passed, laid, settled, attested, marked_one, loaded, left_half, right_half, joined, spent_view};
 
 use crate::kept::Kept;
 use crate::view::View;
@@ -46,6 +46,18 @@ pub struct Attest;
 
 impl<T: Kept> Play<Option<T>, View<T::Entry>> for Attest {
     ghost then = { attested T.by };
+}
+
+pub struct MarkOne;
+
+impl<T: Kept> Play<Option<T>, View<T::Entry>> for MarkOne {
+    ghost then = { marked_one };
+}
+
+pub struct Load;
+
+impl<T: Kept> Play<Option<T>, View<T::Entry>> for Load {
+    ghost then = { loaded T.fin };
 }
 
 pub struct Halves;

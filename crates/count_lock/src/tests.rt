@@ -1,5 +1,6 @@
 //! A list of marks under the lock.
-ghost use Rattle.std.specs.Prelude.{◌≡◌, ◌+◌, ◌^◌, ◌<◌, [], ◌∷◌, ◌++◌, length, true, false, vec_capacity, IfOk};
+ghost use Rattle.std.specs.Prelude.{◌≡◌, ◌+◌, ◌^◌, ◌<◌, [], ◌∷◌, ◌++◌, length, true, false, None, vec_capacity, IfOk};
+ghost use Rattle.std.proofs.Common.{rules, inl};
 ghost use Rattle.count_lock.specs.Passes.{constant, seen, mine, number, IsPassOf, IsResting, IsSamePass};
 ghost use Rattle.count_lock.specs.Rule.{StartsWith};
 
@@ -28,6 +29,11 @@ impl Kept for Marks {
     ghost by = { λ e. e.by };
 
     ghost constant = { λ t. 7 };
+
+    // No mark ends a word.
+    ghost fin = { λ c es k. None };
+
+    ghost fin_laws = { record { stays = λ c es more k p h. h; within = λ c es k p h. Prim.search rules; fresh = λ c es e k p h. inl h } };
 
     fn constant(&self) -> u64 {
         7
@@ -126,6 +132,7 @@ fn two_threads_write_all(rt: HostRuntime) -> Result<(), Fail> {
     assert!(rt; second.number() == 1);
     let (mut first, second) = two(&rt, &lock, first, second);
     assert!(rt; !write(&rt, &lock, &mut first, 0));
+    assert!(rt; lock.ended(&mut first, 2).is_none());
     lock.join(&mut first, second);
     let marks = lock.close(&rt, first);
     let mine = marks.log.iter().filter(|mark| mark.by == 0).count();

@@ -12,6 +12,8 @@ pub enum Stage {
     Waiting,
     /// Its ticket is served, and the value is out.
     Turn,
+    /// Its ticket is served, the value is out, and its entry is in the history.
+    Noted,
     /// Its ticket stays served for ever, and the value is at home.
     Last,
     /// It was joined into another.
@@ -26,7 +28,8 @@ pub struct Kin<E> {
 
 /// The spare numbers are those from `from` to below `until`. `at` is the ticket, counted without end.
 /// `told` is what a joined pass had seen, and `guests` are that pass and its own kin, until the pass has looked at the lock
-/// again: then they are among its `kin`.
+/// again: then they are among its `kin`. `known` is a beginning of the history in which the ends stand that were loaded. While the
+/// pass has noted an entry, `place` is that entry's, and `marked` are the words that it has marked as ended there.
 pub struct View<E> {
     pub stage: Stage,
     pub at: u64,
@@ -38,6 +41,9 @@ pub struct View<E> {
     pub kin: LinkedList<Kin<E>>,
     pub told: LinkedList<E>,
     pub guests: LinkedList<Kin<E>>,
+    pub known: LinkedList<E>,
+    pub place: u64,
+    pub marked: LinkedList<u64>,
     pub constant: u64,
 }
 
@@ -56,7 +62,7 @@ pub struct Rule<T> {
 impl<T: Kept> TableRule<Option<T>, View<T::Entry>, Key> for Rule<T> {
     ghost use Rattle.count_lock.specs.Rule.{Ticketed, first_view};
 
-    ghost holds = { λ key. Ticketed T.entries T.constant T.by key.words };
+    ghost holds = { λ key. Ticketed T.entries T.constant T.by T.fin key.words };
 
     ghost first = { λ key. first_view key.constant };
 }

@@ -160,7 +160,7 @@ cancel_asked d d' k r own e = let h = asked_at d r own.0.state d' (e ∙ cancell
 pub cancel_late : (d d' : Desk) (k r : ℕ) → IsOwn d k r → (d', TooLate) ≡ cancelled d r → d' ≡ d
 cancel_late d d' k r own e = late_at d r own.0.state d' (e ∙ cancelled_is d r own.0 own.1)
 
-collected_is : (d : Desk) (r : ℕ) (q : Request) → slice_get d.requests r ≡ Some q → collected d r ≡ collected_at d r q.state
+pub collected_is : (d : Desk) (r : ℕ) (q : Request) → slice_get d.requests r ≡ Some q → collected d r ≡ collected_at d r q.state
 collected_is d r q at = ap (λ (o : Option Request). elim o as (λ _. Desk × Reply) [ None ↦ (d, NotYet) | Some q ↦ collected_at d r q.state ]) at
 
 ended_at : (d : Desk) (r : ℕ) (st : State) (d' : Desk) (o : Outcome) → (d', Ended o) ≡ collected_at d r st → (st ≡ DoneState o) × (d' ≡ with_state d r Spent)

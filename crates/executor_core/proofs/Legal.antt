@@ -1,13 +1,13 @@
 -- The laws of legal histories.
-use Rattle.std.proofs.Common.{◌≡◌, ℕ, suc, ◌+◌, ◌-◌, ◌*◌, ◌≤◌, ◌≢◌, ◌⊎◌, Bool, true, false, cond, List, [], ◌∷◌, ◌++◌, length, refl, ap, ◌∙◌, subst, sym, arith, inl, inr, ⊎_elim, le_refl, eq-eqb, ne_eqb, Option, Some, None, ◌==◌}
+use Rattle.std.proofs.Common.{◌≡◌, ℕ, suc, ◌+◌, ◌-◌, ◌*◌, ◌≤◌, ◌≢◌, Bool, true, false, cond, List, [], ◌∷◌, ◌++◌, length, refl, ap, ◌∙◌, subst, sym, arith, le_refl, eq-eqb, ne_eqb, Option, Some, None, ◌==◌}
 use mathlib.Core.Logic.{dite}
 use native.Mathlib.Decide.{ℕ_discrete}
 use Rattle.std.specs.Prelude.{slice_get}
 use Rattle.executor_core.specs.declared.request.Request.{Request}
 use Rattle.executor_core.specs.declared.entry.Entry.{Entry}
 use Rattle.executor_core.specs.declared.call.Reply.{Reply}
-use Rattle.executor_core.specs.Acts.{Desk, act, IsOwn, IsRunning, NoneRuns, queued_state, running_state, ended_state}
-use Rattle.executor_core.specs.Histories.{entry, after, LegalFrom, fresh, Legal, board_of, times, of_caller, is_any_submit, is_any_start, is_any_finish, is_close, is_submit, is_start, is_finish, submits, starts, finishes, there, over, ends_by, ends_from, starts_in, ends_in, Settled}
+use Rattle.executor_core.specs.Acts.{Desk, act, queued_state, running_state, ended_state}
+use Rattle.executor_core.specs.Histories.{after, LegalFrom, fresh, Legal, board_of, times, of_caller, is_any_submit, is_any_start, is_any_finish, is_close, is_submit, is_start, is_finish, submits, starts, finishes, there, over, ends_by, ends_from, starts_in, ends_in, Settled}
 use Rattle.executor_core.proofs.Moves.{Move, moves}
 use Rattle.executor_core.proofs.Steps.{unstarted, start_step, end_step, works, work_step, there_step, count_step, closed_step, by_target, any_by_target, Shut, shut_step}
 use Rattle.executor_core.proofs.Weights.{left_on, left_step}
@@ -53,7 +53,7 @@ over_one None = omega arith
 over_one (Some q) = bit (ended_state q.state)
 
 -- a request ends as often as it has ended
-ends_as_over : (d : Desk) (es : List Entry) → LegalFrom d es → (n : ℕ) → over (slice_get d.requests n) + ends_from d n es ≡ over (slice_get (after d es).requests n)
+pub ends_as_over : (d : Desk) (es : List Entry) → LegalFrom d es → (n : ℕ) → over (slice_get d.requests n) + ends_from d n es ≡ over (slice_get (after d es).requests n)
 ends_as_over d [] l n = let x : ℕ = over (slice_get d.requests n) in let g : x + 0 ≡ x = omega arith in g
 ends_as_over d (e ∷ es) l n = let h = ends_as_over (next_desk d e) es l.3 n in let s = end_step d e.caller e.call e.reply (next_desk d e) (move_of d e es l) n in
     let a : ℕ = ends_by d n e.call e.reply in let b : ℕ = ends_from (next_desk d e) n es in let x : ℕ = over (slice_get (after (next_desk d e) es).requests n) in let y : ℕ = over (slice_get (next_desk d e).requests n) in let z : ℕ = over (slice_get d.requests n) in
@@ -150,7 +150,7 @@ count_from d (e ∷ es) l = let h = count_from (next_desk d e) es l.3 in let s =
 pub requests_count : (limit : ℕ) (es : List Entry) → Legal limit es → times is_any_submit es ≡ length (board_of limit es).requests
 requests_count limit es l = let h = count_from (fresh limit) es l in let a : ℕ = times is_any_submit es in let x : ℕ = length (board_of limit es).requests in let h' : 0 + a ≡ x = h in let g : a ≡ x = omega arith in g
 
-closed_from : (d : Desk) (es : List Entry) → LegalFrom d es → cond {A = ℕ} d.closed 1 0 + times is_close es ≡ cond (after d es).closed 1 0
+pub closed_from : (d : Desk) (es : List Entry) → LegalFrom d es → cond {A = ℕ} d.closed 1 0 + times is_close es ≡ cond (after d es).closed 1 0
 closed_from d [] l = let x : ℕ = cond d.closed 1 0 in let g : x + 0 ≡ x = omega arith in g
 closed_from d (e ∷ es) l = let h = closed_from (next_desk d e) es l.3 in let s = closed_step d e.caller e.call e.reply (next_desk d e) (move_of d e es l) in
     let a : ℕ = cond (is_close e) 1 0 in let b : ℕ = times is_close es in let x : ℕ = cond (after (next_desk d e) es).closed 1 0 in let y : ℕ = cond (next_desk d e).closed 1 0 in let z : ℕ = cond d.closed 1 0 in

@@ -8,3 +8,4 @@ pub mod Own
 pub mod Opens
 pub mod Chains
 pub mod Links
+pub mod Ends

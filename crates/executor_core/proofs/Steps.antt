@@ -292,7 +292,7 @@ kept_shift k r q _ _ _ (Withdraws t w) = (refl, refl)
 kept_shift k r q _ _ _ (Asks t w) = (refl, refl)
 kept_shift k r q _ _ _ (Collects o t w) = (refl, refl)
 
-set_length : (rs : List Request) (r : ℕ) (q : Request) (st : State) → slice_get rs r ≡ Some q → length (set_state rs r st) ≡ length rs
+pub set_length : (rs : List Request) (r : ℕ) (q : Request) (st : State) → slice_get rs r ≡ Some q → length (set_state rs r st) ≡ length rs
 set_length rs r q st at = ap (λ (o : Option Request). length (elim o as (λ _. List Request) [ None ↦ rs | Some q ↦ slice_set rs r (record q { state = st }) ])) at ∙ length-set rs r (record q { state = st })
 
 -- each submission adds a request

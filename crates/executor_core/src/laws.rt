@@ -1,8 +1,12 @@
 //! Laws of legal histories.
-ghost use Rattle.std.specs.Prelude.{◌≡◌, ℕ, ◌≤◌, List, [], ◌∷◌, ◌++◌, length, filter, slice_get, cond, true, false, ◌↔◌};
+ghost use Rattle.std.specs.Prelude.{◌≡◌, ◌≢◌, ℕ, ◌≤◌, List, [], ◌∷◌, ◌++◌, length, filter, slice_get, cond, true, false, ◌↔◌, Some};
 ghost use Rattle.executor_core.specs.declared.entry.Entry.{Entry};
-ghost use Rattle.executor_core.specs.Acts.{IsOwn, IsRunning};
-ghost use Rattle.executor_core.specs.Histories.{LegalFrom, Legal, board_of, of_caller, times, there, is_submit, is_spend, is_start, is_finish, is_any_submit, is_any_start, is_any_finish, is_close, is_among, outstanding, unfinished, Outstanding, Unfinished, Settled, starts_in, ends_in};
+ghost use Rattle.executor_core.specs.Acts.{act, IsOwn, IsRunning};
+ghost use Rattle.executor_core.specs.Ends.{end_of};
+ghost use Rattle.executor_core.specs.declared.call.Call.TheVariants.{Collect};
+ghost use Rattle.executor_core.specs.declared.call.Reply.TheVariants.{Ended};
+ghost use Rattle.kj_base.specs.declared.outcomes.Outcome.{Outcome};
+ghost use Rattle.executor_core.specs.Histories.{LegalFrom, Legal, board_of, of_caller, times, there, is_submit, is_spend, is_start, is_finish, is_any_submit, is_any_start, is_any_finish, is_close, is_among, outstanding, unfinished, Outstanding, Unfinished, Settled, starts_in, ends_in, ends_by};
 
 /// A beginning of a legal history is legal, and what follows it is legal from the board that it leaves.
 pub fn beginnings_are_legal()
@@ -50,4 +54,13 @@ pub fn own_entries_tell()
 pub fn entry_opens_or_ends()
     ensures asked { (n : ℕ) (mine : List Entry) (e : Entry) → is_among n (outstanding (mine ++ e ∷ [])) ≡ cond (is_spend n e) false (cond (is_submit n e) true (is_among n (outstanding mine))) }
     ensures run { (n : ℕ) (mine : List Entry) (e : Entry) → is_among n (unfinished (mine ++ e ∷ [])) ≡ cond (is_finish n e) false (cond (is_start n e) true (is_among n (unfinished mine))) }
+{}
+
+/// The place of an end is that of an entry of the history that ends the request, which has then ended: its caller is given its
+/// outcome.
+pub fn ends_have_places()
+    ensures entry { (limit : ℕ) (es : List Entry) (n place : ℕ) → end_of limit es n ≡ Some place
+        → (before : List Entry) × (e : Entry) × (more : List Entry) × (es ≡ before ++ e ∷ more) × (length before ≡ place) × (ends_by (board_of limit before) n e.call e.reply ≢ 0) }
+    ensures collected { (limit : ℕ) (es : List Entry) (c n place : ℕ) → Legal limit es → Outstanding (of_caller c es) n → end_of limit es n ≡ Some place
+        → (o : Outcome) × ((act (board_of limit es) c (Collect n)).1 ≡ Ended o) }
 {}

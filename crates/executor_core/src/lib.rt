@@ -21,8 +21,8 @@ pub use call::{Call, Reply};
 pub use entries::Entries;
 pub use entry::Entry;
 pub use laws::{
-    beginnings_are_legal, closed_is_settled, closed_where_a_close_stands, entry_opens_or_ends,
-    own_entries_tell, requests_are_submissions, requests_start_and_end_once,
+    beginnings_are_legal, closed_is_settled, closed_where_a_close_stands, ends_have_places,
+    entry_opens_or_ends, own_entries_tell, requests_are_submissions, requests_start_and_end_once,
     target_starts_and_finishes,
 };
 pub use request::{Request, State};

@@ -12,6 +12,7 @@ mod tally;
 mod target;
 #[cfg(test)]
 mod threads;
+mod watcher;
 
 pub use both::ask_both;
 pub use item::Item;
@@ -20,3 +21,4 @@ pub use stopper::ask_what_runs;
 pub use submitter::{ask, one_word, settle, withdraw};
 pub use tally::{Served, Tally};
 pub use target::{serve, serve_once};
+pub use watcher::{ask_and_watch, settle_by_sight, watch};

@@ -434,6 +434,36 @@ fn each_caller_gets_back_its_own(rt: HostRuntime) -> Result<(), Fail> {
     Ok(())
 }
 
+// By the finish and the closing, and not by another's withdrawal: the submitters make no other call between two looks.
+#[test]
+fn an_end_is_seen_at_the_next_look(rt: HostRuntime) -> Result<(), Fail> {
+    let (executor, mut target) = Executor::<Item, u64>::new(rt.alloc(), 4)?;
+    let Ok(mut one) = executor.split(&mut target) else {
+        return Err(Fail::new("no number is spare"));
+    };
+    let Ok(mut two) = executor.split(&mut target) else {
+        return Err(Fail::new("no number is spare"));
+    };
+    let Ok(mut three) = executor.split(&mut target) else {
+        return Err(Fail::new("no number is spare"));
+    };
+    let first = put(&rt, &executor, &mut one, 1);
+    let second = put(&rt, &executor, &mut two, 2);
+    let third = put(&rt, &executor, &mut three, 3);
+    assert!(rt; !executor.ended(&mut one, &first) && !executor.ended(&mut two, &second));
+    run_one(&rt, &executor, &mut target, 1, 11);
+    assert!(rt; executor.ended(&mut one, &first) && !executor.ended(&mut two, &second));
+    take_withdrawn(&rt, &executor, &mut three, third, 3);
+    assert!(rt; executor.ended(&mut one, &first) && !executor.ended(&mut two, &second));
+    executor.close(&rt, &mut target);
+    assert!(rt; executor.ended(&mut one, &first) && executor.ended(&mut two, &second));
+    take_result(&rt, &executor, &mut one, first, 11);
+    take_unstarted(&rt, &executor, &mut two, second, 2);
+    let entries = executor.history(&rt, target);
+    assert!(rt; entries.as_slice().len() == 9);
+    Ok(())
+}
+
 #[test]
 fn two_executors_keep_apart(rt: HostRuntime) -> Result<(), Fail> {
     let (left, mut one) = Executor::<Item, u64>::new(rt.alloc(), 1)?;

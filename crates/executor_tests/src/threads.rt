@@ -10,6 +10,8 @@ use crate::patient::serve_all_patiently;
 use crate::stopper::ask_what_runs;
 use crate::submitter::ask;
 use crate::tally::{Served, Tally, count};
+use crate::target::serve;
+use crate::watcher::ask_and_watch;
 use executor_core::{Call, Entry, Reply};
 use std::sync::Wait;
 use std::sync::atomic::{AtomicU32, Ordering};
@@ -258,6 +260,75 @@ fn what_runs_is_told_to_stop(rt: HostRuntime) -> Result<(), Fail> {
     let entries = executor.history(&rt, target);
     assert!(rt; tally.asked == STOPPED && tally.ended == STOPPED && tally.withdrawn == 0);
     assert!(rt; served.stopped == STOPPED && served.finished == STOPPED);
+    assert!(rt; tally_of(entries.as_slice(), 1) == tally);
+    Ok(())
+}
+
+// The end of a request of one thread is seen by it, without the lock, when another thread has finished it.
+fn watch_each<W: Wait>(
+    rt: &W,
+    executor: &Executor<Item, u64>,
+    mut pass: TestPass,
+    done: &AtomicU32,
+) -> (TestPass, Tally)
+    requires { IsIdle executor.now.lock pass }
+    ensures { IsIdle executor.now.lock result.0 }
+{
+    let mut tally = Tally::new();
+    for i in 0..EACH {
+        ask_and_watch(rt, executor, &mut pass, i as u64, &mut tally);
+    }
+    done.fetch_add(1, Ordering::SeqCst);
+    (pass, tally)
+}
+
+fn serve_what_is_watched<W: Wait>(
+    rt: &W,
+    executor: &Executor<Item, u64>,
+    mut pass: TestPass,
+    done: &AtomicU32,
+) -> TestPass
+    requires { IsIdleTarget executor.now.lock pass }
+    ensures { IsReady executor.now.lock result }
+{
+    serve(rt, executor, &mut pass, done, 1);
+    pass
+}
+
+fn run_watched<W: Wait + Threads + Sync>(
+    rt: &W,
+    executor: &Executor<Item, u64>,
+    target: TestPass,
+    pass: TestPass,
+    done: &AtomicU32,
+) -> (TestPass, (TestPass, Tally))
+    requires { IsIdleTarget executor.now.lock target × IsIdle executor.now.lock pass }
+    ensures { IsReady executor.now.lock result.0 × IsIdle executor.now.lock result.1.0 }
+{
+    join(
+        rt,
+        move || -> TestPass
+            requires { IsIdleTarget executor.now.lock target }
+            ensures { IsReady executor.entry.now.lock result }
+        { serve_what_is_watched(rt, executor, target, done) },
+        move || -> (TestPass, Tally)
+            requires { IsIdle executor.now.lock pass }
+            ensures { IsIdle executor.entry.now.lock result.0 }
+        { watch_each(rt, executor, pass, done) },
+    )
+}
+
+#[test]
+fn an_end_is_seen_without_the_lock(rt: HostRuntime) -> Result<(), Fail> {
+    let (executor, mut target) = Executor::<Item, u64>::new(rt.alloc(), EACH)?;
+    let Ok(pass) = executor.split(&mut target) else {
+        return Err(Fail::new("no number is spare"));
+    };
+    let done = AtomicU32::new(0);
+    let (mut target, (pass, tally)) = run_watched(&rt, &executor, target, pass, &done);
+    executor.join(&mut target, pass);
+    let entries = executor.history(&rt, target);
+    assert!(rt; tally.taken == EACH && tally.ended == EACH);
     assert!(rt; tally_of(entries.as_slice(), 1) == tally);
     Ok(())
 }

@@ -1,5 +1,5 @@
 -- What each answer of the board makes of what is kept behind the lock.
-use Rattle.std.proofs.Common.{◌≡◌, ℕ, ◌<◌, ◌≤◌, ◌≢◌, ◌⊎◌, Bool, cond, ne_eqb, true, false, List, [], ◌∷◌, ◌++◌, length, sym, refl, ap, eq-eqb, le_refl, ◌∙◌, subst, inl, inr, ⊎_elim, arith, Some}
+use Rattle.std.proofs.Common.{◌≡◌, ℕ, ◌<◌, ◌≤◌, ◌≢◌, ◌⊎◌, Bool, cond, ne_eqb, true, false, List, [], ◌∷◌, ◌++◌, length, sym, refl, ap, eq-eqb, ◌∙◌, subst, inl, inr, ⊎_elim, arith, Some}
 use Rattle.std.specs.Prelude.{slice_get, slice_set}
 use Rattle.std.proofs.lemmas.Option.{slice_get_past, slice_get_within}
 use Rattle.kj_base.specs.declared.numbers.StepId.{StepId}
@@ -12,7 +12,7 @@ use Rattle.executor_core.specs.declared.call.Call.{Call}
 use Rattle.executor_core.specs.declared.call.Call.TheVariants as call
 use Rattle.executor_core.specs.declared.call.Reply.{Reply}
 use Rattle.executor_core.specs.declared.call.Reply.TheVariants as reply
-use Rattle.executor_core.specs.Acts.{Desk, act, MayAct, IsOwn, IsRunning, NoneRuns, with_state, submitted, nexted, finished, cancelled, collected, closes}
+use Rattle.executor_core.specs.Acts.{Desk, act, MayAct, running_state, IsOwn, IsRunning, NoneRuns, with_state, submitted, nexted, finished, cancelled, collected, closes}
 use Rattle.executor_core.specs.Histories.{entry, of_caller, times, is_submit, is_start, Outstanding, Unfinished, AllFinished}
 use Rattle.executor_core.proofs.Answered.{submit_ok, next_start, next_stop, finish_done, cancel_withdrawn, cancel_asked, collect_ended, close_open}
 use Rattle.executor_core.proofs.Legal.{never_started, never_submitted, started_once, starts_same, few_times, mine_last}
@@ -24,7 +24,7 @@ use Rattle.xthread.specs.declared.answers.Back.{Back}
 use Rattle.xthread.specs.declared.answers.Back.TheVariants.{Unstarted, Ran}
 use Rattle.xthread.specs.Stock.{Book, book, Sound, Whole, Stock, Came, IsBack}
 use Rattle.xthread.specs.Answers.{board, FitsRequest, BackFits}
-use Rattle.xthread.proofs.Grows.{came_same, came_set, came_more, whole_grows, whole_same, sound, room, stock_more, stock_set, stock_state, stock_shut, payload_at, back_at}
+use Rattle.xthread.proofs.Grows.{came_same, came_set, came_more, whole_grows, whole_same, sound, room, stock_more, stock_set, stock_state, stock_shut, runs_away, payload_at, back_at}
 
 module _ {P : Type 0} (fits : P → ℕ → List ℕ → Type 0) where
   -- the request that went to another state still has its step and words
@@ -114,7 +114,7 @@ module _ {P R : Type 0} {fits : P → ℕ → List ℕ → Type 0} {b d : Desk} 
 
   pub start_arm : {r : ℕ} {step : StepId} {words : List ℕ} → Whole fits b es lr ps pr → (d, reply.Start r step words) ≡ nexted b → Arm fits b es lr pr d (slice_set ps r Away) (entry 0 call.Next (reply.Start r step words))
   start_arm {r = r} {step = step} {words = words} w did = let h = next_start b d r step words did in let q = h.0 in let is = h.5 in let same : d.limit ≡ b.limit = ap (λ (x : Desk). x.limit) is in
-      let stock = stock_set fits b.requests ps r q Executing Away w.stock h.1 tt in
+      let stock = stock_set fits b.requests ps r q Executing Away w.stock h.1 refl in
       arm (slice_set ps r Away) 0 call.Next (reply.Start r step words) w refl did h.6 same (subst (λ (x : Desk). Stock fits x.requests (slice_set ps r Away)) (sym is) stock)
       (came_set es (entry 0 call.Next (reply.Start r step words)) ps r Away (λ k ne. ne_eqb r k (λ x. ne (sym x))) tt w.came)
 
@@ -131,7 +131,7 @@ module _ {P R : Type 0} {fits : P → ℕ → List ℕ → Type 0} {b d : Desk} 
 
   pub stop_arm : {r : ℕ} → Whole fits b es lr ps pr → (d, reply.Stop r) ≡ nexted b → Arm fits b es lr pr d ps (entry 0 call.Next (reply.Stop r))
   stop_arm {r = r} w did = let h = next_stop b d r did in let q = h.0 in let is = h.3 in let same : d.limit ≡ b.limit = ap (λ (x : Desk). x.limit) is in
-      let stock = stock_state fits b.requests ps r q Stopping w.stock h.1 (λ _. tt) in
+      let stock = stock_state fits b.requests ps r q Stopping w.stock h.1 (λ place k. runs_away fits q.state q.step q.words place (canceling_runs q.state h.2) k) in
       arm ps 0 call.Next (reply.Stop r) w refl did h.4 same (subst (λ (x : Desk). Stock fits x.requests ps) (sym is) stock) (came_same es (entry 0 call.Next (reply.Stop r)) ps (λ _. refl) w.came)
 
   pub stop_runs : {es' : List Entry} {r : ℕ} → Whole fits b es lr ps pr → (d, reply.Stop r) ≡ nexted b → es' ≡ es ++ entry 0 call.Next (reply.Stop r) ∷ [] → Unfinished (of_caller 0 es') r
@@ -147,7 +147,7 @@ module _ {P R : Type 0} {fits : P → ℕ → List ℕ → Type 0} {b d : Desk} 
 
   pub withdraw_arm : {k r : ℕ} → Whole fits b es lr ps pr → IsOwn b k r → (d, reply.Withdrawn) ≡ cancelled b r → Arm fits b es lr pr d (slice_set ps r Away) (entry k (call.Cancel r) reply.Withdrawn)
   withdraw_arm {k = k} {r = r} w own did = let h = cancel_withdrawn b d k r own did in let q = own.0 in let is = h.1 in let same : d.limit ≡ b.limit = ap (λ (y : Desk). y.limit) is in
-      let stock = stock_set fits b.requests ps r q Spent Away w.stock own.1 tt in
+      let stock = stock_set fits b.requests ps r q Spent Away w.stock own.1 refl in
       arm (slice_set ps r Away) k (call.Cancel r) reply.Withdrawn w own did h.2 same (subst (λ (y : Desk). Stock fits y.requests (slice_set ps r Away)) (sym is) stock)
       (came_set es (entry k (call.Cancel r) reply.Withdrawn) ps r Away (λ _ _. refl) tt w.came)
 
@@ -157,12 +157,12 @@ module _ {P R : Type 0} {fits : P → ℕ → List ℕ → Type 0} {b d : Desk} 
 
   pub ask_arm : {k r : ℕ} → Whole fits b es lr ps pr → IsOwn b k r → (d, reply.Asked) ≡ cancelled b r → Arm fits b es lr pr d ps (entry k (call.Cancel r) reply.Asked)
   ask_arm {k = k} {r = r} w own did = let h = cancel_asked b d k r own did in let q = own.0 in let is = h.1 in let same : d.limit ≡ b.limit = ap (λ (y : Desk). y.limit) is in
-      let stock = stock_state fits b.requests ps r q Canceling w.stock own.1 (λ _. tt) in
+      let stock = stock_state fits b.requests ps r q Canceling w.stock own.1 (λ place k. runs_away fits q.state q.step q.words place (ap running_state h.0) k) in
       arm ps k (call.Cancel r) reply.Asked w own did h.2 same (subst (λ (y : Desk). Stock fits y.requests ps) (sym is) stock) (came_same es (entry k (call.Cancel r) reply.Asked) ps (λ _. refl) w.came)
 
   pub collect_arm : {k r : ℕ} {o : Outcome} → Whole fits b es lr ps pr → IsOwn b k r → (d, reply.Ended o) ≡ collected b r → Arm fits b es lr pr d (slice_set ps r Away) (entry k (call.Collect r) (reply.Ended o))
   collect_arm {k = k} {r = r} {o = o} w own did = let h = collect_ended b d k r o own did in let q = own.0 in let is = h.1 in let same : d.limit ≡ b.limit = ap (λ (y : Desk). y.limit) is in
-      let stock = stock_set fits b.requests ps r q Spent Away w.stock own.1 tt in
+      let stock = stock_set fits b.requests ps r q Spent Away w.stock own.1 refl in
       arm (slice_set ps r Away) k (call.Collect r) (reply.Ended o) w own did h.2 same (subst (λ (y : Desk). Stock fits y.requests (slice_set ps r Away)) (sym is) stock)
       (came_set es (entry k (call.Collect r) (reply.Ended o)) ps r Away (λ _ _. refl) tt w.came)
 

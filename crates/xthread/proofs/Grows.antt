@@ -14,7 +14,7 @@ use Rattle.executor_core.specs.declared.request.Request.{Request}
 use Rattle.executor_core.specs.declared.entry.Entry.{Entry}
 use Rattle.executor_core.specs.declared.call.Call.{Call}
 use Rattle.executor_core.specs.declared.call.Reply.{Reply}
-use Rattle.executor_core.specs.Acts.{Desk, act, MayAct, is_queued, queued_state, set_state, new_request, shut, disconnected}
+use Rattle.executor_core.specs.Acts.{Desk, act, MayAct, is_queued, queued_state, running_state, set_state, new_request, shut, disconnected}
 use Rattle.executor_core.specs.Histories.{entry, Legal, board_of, starts_in, is_start}
 use Rattle.executor_core.proofs.Answered.{grows}
 use Rattle.executor_core.proofs.Legal.{short, starts_same}
@@ -23,7 +23,7 @@ use Rattle.xthread.specs.Answers.{BackTells}
 use Rattle.xthread.specs.declared.answers.Back.{Back}
 use Rattle.xthread.specs.declared.answers.Back.TheVariants.{Unstarted, Ran}
 use Rattle.xthread.specs.declared.place.Place.{Place}
-use Rattle.xthread.specs.declared.place.Place.TheVariants.{Waiting, Finished}
+use Rattle.xthread.specs.declared.place.Place.TheVariants.{Waiting, Away, Finished}
 use Rattle.xthread.specs.Stock.{Whole, Keeps, Stock, HasPayload, HasResult, IsBack, Since, Came}
 
 module _ {A : Type 0} where
@@ -39,7 +39,7 @@ module _ {A : Type 0} where
   was_set (x ∷ xs) (suc i) zero a b e h = absurd (omega arith)
   was_set (x ∷ xs) (suc i) (suc k) a b e h = was_set xs i k a b (omega arith) h
 
-  missing : {B : Type 0} (rs : List B) (ps : List A) (r : ℕ) (q : B) → length ps ≡ length rs → slice_get rs r ≡ Some q → slice_get ps r ≡ None → ⊥
+  pub missing : {B : Type 0} (rs : List B) (ps : List A) (r : ℕ) (q : B) → length ps ≡ length rs → slice_get rs r ≡ Some q → slice_get ps r ≡ None → ⊥
   missing [] ps r q l at is = cc
   missing (x ∷ rs) [] r q l at is = omega arith
   missing (x ∷ rs) (y ∷ ps) zero q l at is = cc
@@ -119,14 +119,23 @@ module _ {P R : Type 0} (fits : P → ℕ → List ℕ → Type 0) where
         (λ h. s.1 k x place (sym h.1 ∙ there) (sym (get_else ps r k new h.0) ∙ here)) (at_state rs r q st at k),
   )
 
-  -- another state for one request, of which nothing is kept
-  pub stock_state : (rs : List Request) (ps : List (Place P R)) (r : ℕ) (q : Request) (st : State) → Stock fits rs ps → slice_get rs r ≡ Some q → ((place : Place P R) → Keeps fits st q.step q.words place) → Stock fits (set_state rs r st) ps
+  -- another state for one request, of which the same is kept
+  pub stock_state : (rs : List Request) (ps : List (Place P R)) (r : ℕ) (q : Request) (st : State) → Stock fits rs ps → slice_get rs r ≡ Some q → ((place : Place P R) → Keeps fits q.state q.step q.words place → Keeps fits st q.step q.words place) → Stock fits (set_state rs r st) ps
   stock_state rs ps r q st s at keeps = (
     s.0 ∙ sym (length-set rs r (record q { state = st })) ∙ sym (ap length (set_is rs r q st at)),
     λ k x place there here. ⊎_elim
-        (λ h. let same : record q { state = st } ≡ x = let e = h.2 in cc in subst (λ (y : Request). Keeps fits y.state y.step y.words place) same (keeps place))
+        (λ h. let same : record q { state = st } ≡ x = let e = h.2 in cc in subst (λ (y : Request). Keeps fits y.state y.step y.words place) same (keeps place (s.1 r q place at (ap (slice_get ps) (sym h.0) ∙ here))))
         (λ h. s.1 k x place (sym h.1 ∙ there) here) (at_state rs r q st at k),
   )
+
+  -- nothing is kept for a request that runs
+  pub runs_away : (st : State) (step : StepId) (words : List ℕ) (place : Place P R) → running_state st ≡ true → Keeps fits st step words place → place ≡ Away
+  runs_away Queued step words place e k = absurd cc
+  runs_away Executing step words place e k = k
+  runs_away Canceling step words place e k = k
+  runs_away Stopping step words place e k = k
+  runs_away (DoneState o) step words place e k = absurd cc
+  runs_away Spent step words place e k = absurd cc
 
   queued_payload : (st : State) (step : StepId) (words : List ℕ) (place : Place P R) → queued_state st ≡ true → Keeps fits st step words place → HasPayload fits step words place
   queued_payload Queued step words place e k = k

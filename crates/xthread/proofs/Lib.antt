@@ -1,3 +1,5 @@
 pub mod Grows
 pub mod Effects
 pub mod Whole
+pub mod Marks
+pub mod Closing

@@ -1,17 +1,21 @@
 -- What a pass is told by a whole turn: it takes the value, the value changes or not, and the pass notes the entry or leaves.
-use Rattle.std.proofs.Common.{◌≡◌, ℕ, List, [], ◌∷◌, ◌++◌, sym, ap, ◌∙◌, subst, append_assoc}
+use Rattle.std.proofs.Common.{◌≡◌, ℕ, ◌<◌, List, [], ◌∷◌, ◌++◌, sym, ap, ◌∙◌, subst, append_assoc, Some}
 use Rattle.count_lock.specs.declared.kept.Kept.{Ghosts}
 use Rattle.count_lock.specs.declared.pass.Pass.{Pass}
 use Rattle.count_lock.specs.declared.lock.CountLock.{CountLock}
-use Rattle.count_lock.specs.Passes.{constant, seen, mine, number, IsSamePass, IsUnsplit, Accounts}
+use Rattle.count_lock.specs.Passes.{constant, seen, known, mine, number, IsSamePass}
 use Rattle.executor_core.specs.declared.entry.Entry.{Entry}
 use Rattle.executor_core.specs.declared.call.Call.{Call}
 use Rattle.executor_core.specs.declared.call.Reply.{Reply}
 use Rattle.executor_core.specs.Acts.{act}
 use Rattle.executor_core.specs.Histories.{Legal, board_of, of_caller}
+use Rattle.executor_core.specs.declared.call.Call.TheVariants.{Collect}
+use Rattle.executor_core.specs.declared.call.Reply.TheVariants.{NotYet, Ended}
+use Rattle.executor_core.specs.Ends.{end_of}
+use Rattle.executor_core.proofs.Ends.{own_below, end_stays, placed_collects}
 use Rattle.xthread.specs.Stock.{Book, Grown, Sound}
 use Rattle.xthread.specs.Answers.{board, Unchanged}
-use Rattle.xthread.specs.Told.{IsReady, Holds, Told, Gains, Stays, board_seen, caller_of}
+use Rattle.xthread.specs.Told.{Holds, Told, Gains, Stays, EndKnown, board_seen}
 use Rattle.xthread.specs.Turns.{Taken, Noted, Left}
 use Rattle.xthread.specs.declared.ticket.Ticket.{Ticket}
 use Rattle.executor_core.specs.Histories.{Outstanding}
@@ -65,10 +69,12 @@ module _ {T : Type 0} {g : Ghosts T Entry} {l : CountLock T Entry} {p m q : Pass
     kin_same = n.kin_same ∙ t.kin_same;
     ready = record {
       lock = record { table = n.same.table ∙ t.lock.table; constant = n.same.constant ∙ t.lock.constant };
+      words = t.words ∙ sym n.same.constant;
       rests = n.rests;
       legal = subst (λ (k : ℕ). Legal k (seen q)) h.1 (subst (Legal b.limit) h.0 s.0);
     };
     longer = (t.longer.0 ++ e ∷ [], n.longer ∙ ap (λ (l : List Entry). l ++ e ∷ []) t.longer.1 ∙ append_assoc (seen p) t.longer.0 (e ∷ []));
+    knows = (t.knows.0 ++ e ∷ [], n.longer ∙ ap (λ (l : List Entry). l ++ e ∷ []) t.knows.1 ∙ append_assoc (known p) t.knows.0 (e ∷ []));
     accounts = n.accounts t.accounts;
     unsplit = λ u. n.longer ∙ ap (λ (l : List Entry). l ++ e ∷ []) (t.unsplit u) ∙ sym n.own;
   }
@@ -87,19 +93,22 @@ module _ {T : Type 0} {g : Ghosts T Entry} {l : CountLock T Entry} {p m q : Pass
     kin_same = n.kin_same ∙ t.kin_same;
     ready = record {
       lock = record { table = n.same.table ∙ t.lock.table; constant = n.same.constant ∙ t.lock.constant };
+      words = t.words ∙ sym n.same.constant;
       rests = n.rests;
       legal = subst (λ (k : ℕ). Legal k (seen q)) (ap (λ (x : Book). x.limit) w ∙ t.limit ∙ sym n.same.constant) (subst (Legal b.limit) (ap (λ (x : Book). x.entries) w ∙ t.entries ∙ sym n.longer) s.0);
     };
     longer = (t.longer.0, n.longer ∙ t.longer.1);
+    knows = (t.knows.0, n.longer ∙ t.knows.1);
     accounts = n.accounts t.accounts;
     unsplit = λ u. n.longer ∙ t.unsplit u ∙ sym n.own;
   }
 
   -- a ticket that is held still
-  pub grown_holds : {e : Entry} {t : Ticket} → Taken l p m v → Noted m q e → a ≡ v → Grown a b e → t.owner.table_id ≡ p.seat.table_id → t.owner.number ≡ number p → Outstanding (of_caller (number p) b.entries) t.request → Holds q t
-  grown_holds {t = t} k n is grew table caller u = record {
+  pub grown_holds : {e : Entry} {t : Ticket} → Taken l p m v → Noted m q e → a ≡ v → Grown a b e → Sound b → t.owner.table_id ≡ p.seat.table_id → t.owner.number ≡ number p → Outstanding (of_caller (number p) b.entries) t.request → Holds q t
+  grown_holds {t = t} k n is grew s table caller u = record {
     table = table ∙ sym (chain k.same n.same).table;
     caller = caller ∙ sym (chain k.same n.same).number;
+    below = subst (λ (x : ℕ). t.request < x) (grown_entries k n is grew).1 (own_below b.limit b.entries (number p) t.request s.0 u);
     open_yet = subst (λ (l : List Entry). Outstanding l t.request) (grown_own k n is grew) u;
   }
 
@@ -108,5 +117,13 @@ module _ {T : Type 0} {g : Ghosts T Entry} {l : CountLock T Entry} {p m q : Pass
   left_holds {t = t} k n h = record {
     table = h.table ∙ sym (chain k.same n.same).table;
     caller = h.caller ∙ sym (chain k.same n.same).number;
+    below = subst (λ (x : ℕ). t.request < x) (sym (chain k.same n.same).constant) h.below;
     open_yet = subst (λ (l : List Entry). Outstanding l t.request) (sym (left_own k n)) h.open_yet;
   }
+
+-- a submitter that knew of the end is given the outcome
+pub known_collects : {T : Type 0} {g : Ghosts T Entry} {l : CountLock T Entry} {p q : Pass T Entry g} (t : Ticket) → Told l p q → Stays p q (Collect t.request) NotYet → Holds q t → EndKnown p t.request → ⊥
+known_collects {p = p} {q = q} t told stays holds k = let r : ℕ = t.request in
+    let is_end : end_of (constant q) (seen q) r ≡ Some k.place = ap (λ (l : List Entry). end_of (constant q) l r) told.knows.1 ∙ ap (λ (n : ℕ). end_of n (known p ++ told.knows.0) r) told.same.constant ∙ end_stays (constant p) (known p) told.knows.0 r k.place k.is_end in
+    let h = placed_collects (constant q) (seen q) (number q) r k.place told.ready.legal (subst (λ (l : List Entry). Outstanding l r) (sym told.accounts.mine) holds.open_yet) is_end in
+    let e : NotYet ≡ Ended h.0 = sym stays.answer ∙ h.1 in cc

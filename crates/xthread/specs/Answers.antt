@@ -91,3 +91,9 @@ module _ {P R : Type 0} (fits : P → ℕ → List ℕ → Type 0) (Gains : Entr
   abbrev pub CollectTells : Desk → List Entry → ℕ → Ticket → Collected P R → Type 0
   CollectTells d es c t (NotYet back) = KeepsTicket (Stays (call.Collect (request t)) reply.NotYet) Holds t back
   CollectTells d es c t (Ended o back) = EndTells fits Gains d es c (request t) o back
+
+module _ {P R : Type 0} where
+  -- an outcome was given
+  abbrev pub GivesOutcome : Collected P R → Type 0
+  GivesOutcome (NotYet t) = ⊥
+  GivesOutcome (Ended o back) = Unit {0}

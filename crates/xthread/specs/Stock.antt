@@ -35,11 +35,11 @@ module _ {P R : Type 0} (fits : P → ℕ → List ℕ → Type 0) where
   abbrev pub HasResult : Place P R → Type 0
   HasResult place = (r : R) × (place ≡ Finished r)
 
-  -- a queued request has its payload, and one that has ended has its payload or a result
+  -- a queued request has its payload, one that has ended and isn't spent has its payload or a result, and any other has neither
   abbrev pub Keeps : State → StepId → List ℕ → Place P R → Type 0
   Keeps Queued step words place = HasPayload step words place
   Keeps (DoneState o) step words place = HasPayload step words place ⊎ HasResult place
-  Keeps _ step words place = Unit {0}
+  Keeps _ step words place = place ≡ Away
 
   abbrev pub Stock : List Request → List (Place P R) → Type 0
   Stock rs places = (length places ≡ length rs)

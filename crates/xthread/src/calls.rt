@@ -1,11 +1,12 @@
 //! The calls of a submitter.
 ghost use Rattle.std.specs.Prelude.{◌≡◌, IfOk, IfErr};
+ghost use Rattle.std.specs.Bool.{OnTrue, OnFalse};
 ghost use Rattle.count_lock.specs.Passes.{seen, mine, number};
 ghost use Rattle.executor_core.specs.declared.call.Call.TheVariants.{Submit};
 ghost use Rattle.executor_core.specs.Acts.{refusal_reply};
 ghost use Rattle.executor_core.specs.Histories.{entry, times, is_submit};
-ghost use Rattle.xthread.specs.Answers.{request, CancelTells, CollectTells};
-ghost use Rattle.xthread.specs.Told.{IsReady, Holds, Told, Gains, Stays, board_seen};
+ghost use Rattle.xthread.specs.Answers.{request, CancelTells, CollectTells, GivesOutcome};
+ghost use Rattle.xthread.specs.Told.{IsReady, Holds, Told, Gains, Stays, board_seen, Unchanged, EndKnown, EndUnseen};
 
 use crate::answers::{Cancelled, Collected};
 use crate::executor::{Executor, ExecutorPass};
@@ -66,22 +67,18 @@ impl<P: Sent + Drop, R: Send + Drop> Executor<P, R> {
         ensures answer { CancelTells P.fits (Gains pass.old pass.new) (Stays pass.old pass.new) (Holds pass.new) (board_seen pass.new) (number pass.old) ticket result }
     {
         let caller = pass.number();
-        let call = Call::Cancel {
-            request: ticket.request,
-        };
+        let request = ticket.request;
+        let call = Call::Cancel { request };
         let mut held = self.take(rt, pass);
         match held.value_mut().cancel(caller, ticket) {
             Cancelled::Withdrawn(payload) => {
                 let reply = Reply::Withdrawn;
-                self.note(
-                    held,
-                    pass,
-                    Entry {
-                        caller,
-                        call,
-                        reply,
-                    },
-                );
+                let entry = Entry {
+                    caller,
+                    call,
+                    reply,
+                };
+                self.note_end(held, pass, entry, request);
                 Cancelled::Withdrawn(payload)
             }
             Cancelled::Asked(ticket) => {
@@ -104,6 +101,18 @@ impl<P: Sent + Drop, R: Send + Drop> Executor<P, R> {
         }
     }
 
+    /// True where the request's end is in the history by now. It takes no turn and waits for nobody: a collection gives the
+    /// outcome then.
+    pub fn ended(&self, pass: &mut ExecutorPass<P, R>, ticket: &Ticket) -> bool
+        requires pass { IsReady self.now.lock pass.old }
+        requires holds { Holds pass.old ticket.now }
+        ensures pass { Unchanged self.now.lock pass.old pass.new × Holds pass.new ticket.now }
+        ensures over { OnTrue result (EndKnown pass.new (request ticket.now)) }
+        ensures not_yet { OnFalse result (EndUnseen pass.old pass.new (request ticket.now)) }
+    {
+        self.lock.ended(pass, ticket.request).is_some()
+    }
+
     /// Takes the outcome of a request that has ended, and what it gives back: its payload where it never started, and a result
     /// where it did.
     pub fn collect<W: Wait>(
@@ -116,6 +125,7 @@ impl<P: Sent + Drop, R: Send + Drop> Executor<P, R> {
         requires holds { Holds pass.old ticket }
         ensures told { Told self.now.lock pass.old pass.new }
         ensures answer { CollectTells P.fits (Gains pass.old pass.new) (Stays pass.old pass.new) (Holds pass.new) (board_seen pass.new) (seen pass.new) (number pass.old) ticket result }
+        ensures known { EndKnown pass.old (request ticket) → GivesOutcome result }
     {
         let caller = pass.number();
         let call = Call::Collect {

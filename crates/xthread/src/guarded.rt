@@ -1,10 +1,13 @@
 //! What lies behind the lock of an executor.
-ghost use Rattle.std.specs.Prelude.{◌≡◌, ◌+◌, ◌≤◌, ◌≢◌, ℕ, [], ◌∷◌, ◌++◌, length, true, false, IfOk, IfErr, IfSome, IfNone};
+ghost use Rattle.std.specs.Prelude.{◌≡◌, ◌+◌, ◌<◌, ◌≤◌, ◌≢◌, ℕ, [], ◌∷◌, ◌++◌, length, true, false, List, cond, slice_get, IfOk, IfErr, IfSome, IfNone};
 ghost use Rattle.std.specs.Bool.{OnTrue, OnFalse};
 ghost use Rattle.executor_core.specs.declared.call.Call.TheVariants.{Submit, Next, Finish, Cancel, Collect, Close};
 ghost use Rattle.executor_core.specs.declared.call.Reply.TheVariants.{Done};
+ghost use Rattle.executor_core.specs.declared.entry.Entry.{Entry};
 ghost use Rattle.executor_core.specs.Acts.{act, refusal_reply};
-ghost use Rattle.executor_core.specs.Histories.{entry, board_of, of_caller, times, is_submit, Outstanding, Unfinished, AllFinished, Legal};
+ghost use Rattle.executor_core.specs.Ends.{end_of};
+ghost use Rattle.executor_core.proofs.Ends.{end_stays, end_within, end_fresh};
+ghost use Rattle.executor_core.specs.Histories.{entry, board_of, of_caller, times, is_submit, waits, Outstanding, Unfinished, AllFinished, Legal};
 ghost use Rattle.xthread.specs.Stock.{Book, book, Grown, Sound};
 ghost use Rattle.xthread.specs.Answers.{request, board, Unchanged, NextTells, CancelTells, CollectTells};
 
@@ -46,6 +49,11 @@ impl<P: Sent, R: Send> Kept for Guarded<P, R> {
 
     ghost constant = { λ g. g.limit };
 
+    // The place of the finish, the withdrawal or the closing that ends the request.
+    ghost fin = { end_of };
+
+    ghost fin_laws = { record { stays = end_stays; within = end_within; fresh = end_fresh } };
+
     fn constant(&self) -> u64 {
         self.board.limit() as u64
     }
@@ -70,6 +78,30 @@ impl<P: Sent + Drop, R: Send + Drop> Guarded<P, R> {
         ensures legal { Legal self.limit result }
     {
         Entries::from_vec(self.log)
+    }
+
+    /// How many requests were submitted.
+    pub(crate) fn submitted(&self) -> u32
+        ensures { result ≡ length (board self.now).requests }
+    {
+        self.places.len() as u32
+    }
+
+    /// The place of the last entry.
+    pub(crate) fn last_place(&self) -> u64
+        requires { 1 ≤ length self.now.entries }
+        ensures { result + 1 ≡ length self.now.entries }
+    {
+        self.log.len() as u64 - 1
+    }
+
+    /// After a closing: the request waited for its start until then.
+    pub(crate) fn is_unstarted(&self, request: u32) -> bool
+        requires { request < length (board self.now).requests }
+        ensures { (before : List Entry) → self.now.entries ≡ before ++ entry 0 Close Done ∷ []
+            → waits (slice_get (board_of self.now.limit before).requests request) ≡ cond result 1 0 }
+    {
+        self.places[request as usize].is_waiting()
     }
 
     pub(crate) fn submit(

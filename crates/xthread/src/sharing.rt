@@ -15,7 +15,7 @@ use std::sync::Wait;
 
 impl<P: Sent + Drop, R: Send + Drop> Executor<P, R> {
     /// An executor that takes up to `requests` requests in all, and the target's pass. It makes the room for all that may
-    /// follow: six entries for each request, and one more.
+    /// follow: six entries for each request, and one more, and for each a word that tells of its end.
     pub fn new(
         alloc: Global,
         requests: u32,
@@ -26,7 +26,7 @@ impl<P: Sent + Drop, R: Send + Drop> Executor<P, R> {
         ensures empty { IfOk result (λ r. (seen r.1 ≡ []) × (mine r.1 ≡ []) × (kin r.1 ≡ [])) }
     {
         let guarded = Guarded::new(alloc, requests)?;
-        match CountLock::new(alloc, guarded, 0) {
+        match CountLock::new(alloc, guarded, requests) {
             Ok((lock, pass)) => Ok((Executor { lock }, pass)),
             Err((error, _guarded)) => Err(error),
         }

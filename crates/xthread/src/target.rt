@@ -78,7 +78,7 @@ impl<P: Sent + Drop, R: Send + Drop> Executor<P, R> {
             call,
             reply: Reply::Done,
         };
-        self.note(held, pass, entry);
+        self.note_end(held, pass, entry, request);
     }
 
     /// Takes no further submissions. What is queued ends as disconnected, and gives its payload back.
@@ -93,12 +93,7 @@ impl<P: Sent + Drop, R: Send + Drop> Executor<P, R> {
     {
         let mut held = self.take(rt, pass);
         if held.value_mut().close() {
-            let entry = Entry {
-                caller: 0,
-                call: Call::Close,
-                reply: Reply::Done,
-            };
-            self.note(held, pass, entry);
+            self.note_close(held, pass);
         } else {
             self.leave(held, pass);
         }

@@ -11,12 +11,12 @@ use Rattle.xthread.proofs.executor.Executor.close.Goals as goal
 
 pub returns-then-close-clause-told : goal.returns-then-close-clause-told
 returns-then-close-clause-told g c = let grew = subst (λ (b : Bool). OnTrue b (Grown c.value_mut.result.now c.close.new.self (entry 0 call.Close reply.Done))) c.if-close.true c.close.ensures.opened in
-    grown_told c.take-held.ensures c.note.ensures c.value_mut.ensures.value grew c.close.ensures.sound
+    grown_told c.take-held.ensures c.note_close.ensures c.value_mut.ensures.value grew c.close.ensures.sound
 
 pub returns-then-close-clause-settled : goal.returns-then-close-clause-settled
 returns-then-close-clause-settled g c = let grew = subst (λ (b : Bool). OnTrue b (Grown c.value_mut.result.now c.close.new.self (entry 0 call.Close reply.Done))) c.if-close.true c.close.ensures.opened in
-    let told = grown_told c.take-held.ensures c.note.ensures c.value_mut.ensures.value grew c.close.ensures.sound in
-    closed_settled _ _ told.ready.legal (ap (λ d. d.closed) (sym (grown_board c.take-held.ensures c.note.ensures c.value_mut.ensures.value grew)) ∙ c.close.ensures.closed)
+    let told = grown_told c.take-held.ensures c.note_close.ensures c.value_mut.ensures.value grew c.close.ensures.sound in
+    closed_settled _ _ told.ready.legal (ap (λ d. d.closed) (sym (grown_board c.take-held.ensures c.note_close.ensures c.value_mut.ensures.value grew)) ∙ c.close.ensures.closed)
 
 pub returns-else-close-clause-told : goal.returns-else-close-clause-told
 returns-else-close-clause-told g c = let still = subst (λ (b : Bool). OnFalse b (Unchanged c.value_mut.result.now c.close.new.self 0 call.Close reply.Done)) c.if-close.false c.close.ensures.again in

@@ -6,5 +6,5 @@ use Rattle.xthread.proofs.Whole.{grown_told, noted_as}
 use Rattle.xthread.proofs.executor.Executor.finish.Goals as goal
 
 pub returns-clause-told : goal.returns-clause-told
-returns-clause-told g c = let noted = noted_as c.note.ensures (ap (λ o. entry 0 (call.Finish c.args.request o) reply.Done) c.copy.ensures) in
+returns-clause-told g c = let noted = noted_as c.note_end.ensures (ap (λ o. entry 0 (call.Finish c.args.request o) reply.Done) c.copy.ensures) in
     grown_told c.take-held.ensures noted c.value_mut.ensures.value c.finish.ensures.told c.finish.ensures.sound

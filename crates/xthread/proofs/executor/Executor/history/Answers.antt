@@ -1,5 +1,5 @@
-use Rattle.std.proofs.Common.{ap, sym, ◌∙◌, subst}
-use Rattle.executor_core.specs.Histories.{Legal, board_of, Settled}
+use Rattle.std.proofs.Common.{subst}
+use Rattle.executor_core.specs.Histories.{Legal}
 use Rattle.executor_core.proofs.Legal.{closed_settled}
 use Rattle.xthread.proofs.executor.Executor.history.Goals as goal
 

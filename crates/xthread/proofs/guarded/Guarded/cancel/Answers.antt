@@ -1,4 +1,4 @@
-use Rattle.std.proofs.Common.{arith, ap, sym, ◌∙◌, ◌≡◌, subst, refl}
+use Rattle.std.proofs.Common.{arith, ◌≡◌, subst, refl}
 use Rattle.std.proofs.lemmas.Option.{slice_get_within}
 use Rattle.executor_core.specs.Acts.{cancel_reply}
 use Rattle.executor_core.proofs.Answered.{cancel_late}

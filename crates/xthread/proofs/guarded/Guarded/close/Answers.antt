@@ -1,7 +1,6 @@
 use Rattle.std.proofs.Common.{arith, ap, sym, ◌∙◌, ◌≡◌, refl, true, false, Bool}
 use Rattle.executor_core.proofs.Answered.{close_closed}
-use Rattle.xthread.proofs.Grows.{whole_same}
-use Rattle.xthread.proofs.Effects.{grown, arm_sound, arm_board, same_sound, none_runs, close_arm}
+use Rattle.xthread.proofs.Effects.{arm_sound, arm_board, same_sound, none_runs, close_arm}
 use Rattle.xthread.proofs.guarded.Guarded.close.Goals as goal
 
 truth : (b : Bool) → (b ≡ false → ⊥) → b ≡ true

@@ -1,4 +1,4 @@
-use Rattle.std.proofs.Common.{arith, refl, ap, sym, ◌∙◌, subst}
+use Rattle.std.proofs.Common.{arith, refl, sym, subst}
 use Rattle.std.proofs.lemmas.Option.{slice_get_within}
 use Rattle.executor_core.specs.declared.call.Call.TheVariants as call
 use Rattle.executor_core.specs.declared.call.Reply.TheVariants as reply

@@ -5,7 +5,6 @@ use Rattle.executor_core.specs.Acts.{next_reply}
 use Rattle.executor_core.specs.Histories.{entry}
 use Rattle.executor_core.proofs.Answered.{next_empty}
 use Rattle.xthread.proofs.Effects.{answered, grown, arm_sound, same_sound, start_arm, start_payload, start_fresh, start_runs, stop_arm, stop_runs}
-use Rattle.xthread.proofs.Grows.{whole_same}
 use Rattle.xthread.proofs.guarded.Guarded.next.Goals as goal
 
 pub take_payload-payload-requires : goal.take_payload-payload-requires

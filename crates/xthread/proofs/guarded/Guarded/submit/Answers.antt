@@ -1,4 +1,4 @@
-use Rattle.std.proofs.Common.{arith, ap, ◌∙◌, ◌≡◌, ◌++◌, ◌∷◌, [], List}
+use Rattle.std.proofs.Common.{arith, ap, ◌∙◌, ◌≡◌, List}
 use Rattle.std.specs.Prelude.{ℕ, Err}
 use Rattle.kj_base.specs.declared.numbers.StepId.{StepId}
 use Rattle.executor_core.specs.declared.answers.NotTaken.{NotTaken}
