@@ -2,7 +2,6 @@
 """Runs the gate, and prints what it cost: processor seconds of proofs, tests and edits, a crate a row.
 
     bench/gate.py            runs `rt ci` at the top, with its output passed through
-    bench/gate.py --anew     the same from nothing
     bench/gate.py --pid PID  watches a gate that runs already, until it ends
 
 It looks at the processes below the gate twice a second. What a process used after the last look is

@@ -3,6 +3,8 @@
 
 mod both;
 mod item;
+#[cfg(test)]
+mod looks;
 mod patient;
 #[cfg(test)]
 mod rows;
@@ -21,4 +23,4 @@ pub use stopper::ask_what_runs;
 pub use submitter::{ask, one_word, settle, withdraw};
 pub use tally::{Served, Tally};
 pub use target::{serve, serve_once};
-pub use watcher::{ask_and_watch, settle_by_sight, watch};
+pub use watcher::{ask_and_watch, look, settle_by_sight, watch};

@@ -39,7 +39,8 @@ pub fn ask_what_runs<W: Wait>(
     }
 }
 
-fn wait_for<W: Wait>(rt: &W, running: &AtomicU32, many: u32) {
+// Waits until the number is so large.
+pub(crate) fn wait_for<W: Wait>(rt: &W, running: &AtomicU32, many: u32) {
     for _ in rt.forever() {
         if running.load(Ordering::SeqCst) >= many {
             return;

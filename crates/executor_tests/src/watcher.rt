@@ -1,4 +1,5 @@
 //! A caller that looks for the end of its request without the lock.
+ghost use Rattle.std.specs.Bool.{OnTrue};
 ghost use Rattle.count_lock.specs.Passes.{IsSamePass};
 ghost use Rattle.xthread.specs.Told.{EndKnown};
 ghost use Rattle.executor_tests.specs.Callers.{IsIdle, HasOne};
@@ -11,7 +12,21 @@ use std::sync::Wait;
 use std::thread;
 use xthread::{Collected, Executor, ExecutorPass, Ticket};
 
-/// Looks until the one request that is outstanding has ended. It takes no turn.
+/// One look whether the one request that is outstanding has ended. It takes no turn.
+pub fn look(
+    executor: &Executor<Item, u64>,
+    pass: &mut ExecutorPass<Item, u64>,
+    ticket: &Ticket,
+) -> bool
+    requires { HasOne executor.now.lock pass.old ticket.now }
+    ensures same { IsSamePass pass.old pass.new }
+    ensures one { HasOne executor.now.lock pass.new ticket.now }
+    ensures known { OnTrue result (EndKnown pass.new ticket.now.request) }
+{
+    executor.ended(pass, ticket)
+}
+
+/// Looks until the one request that is outstanding has ended.
 pub fn watch<W: Wait>(
     rt: &W,
     executor: &Executor<Item, u64>,
@@ -24,7 +39,7 @@ pub fn watch<W: Wait>(
     ensures known { EndKnown pass.new ticket.now.request }
 {
     for _ in rt.forever() {
-        if executor.ended(pass, ticket) {
+        if look(executor, pass, ticket) {
             return;
         }
         thread::yield_now();
