@@ -9,7 +9,7 @@ use itoa::Buffer;
 use kj_base::{Bytes, NoMemory};
 use std::alloc::Global;
 
-/// Which request of which connection.
+// Which request of which connection.
 #[derive(Clone, Copy, Debug, PartialEq, Eq)]
 struct Place {
     conn: u32,
@@ -33,7 +33,7 @@ fn push_path(out: &mut Bytes, place: Place) -> Result<(), NoMemory>
     push_number(out, place.request)
 }
 
-/// Appends the request line and the Host line.
+// Appends the request line and the Host line.
 #[tactic(auto, unfolding(crate::specs::Generator::lines))]
 fn push_lines(out: &mut Bytes, method: &[u8], place: Place) -> Result<(), NoMemory>
     ensures { OnOk result (out.new ≡ out.old ++ lines method.now place.conn place.request) }
@@ -51,7 +51,7 @@ fn hex_digit(n: u8) -> u8
     if n < 10 { b'0' + n } else { b'a' - 10 + n }
 }
 
-/// Appends a chunk of so many letters, and nothing where there are none.
+// Appends a chunk of so many letters, and nothing where there are none.
 #[tactic(auto, unfolding(crate::specs::Generator::chunk))]
 fn push_chunk(out: &mut Bytes, size: u8, generator: &mut Generator) -> Result<(), NoMemory>
     requires { size < 16 }
@@ -103,7 +103,7 @@ fn push_bare_request(out: &mut Bytes, method: &[u8], place: Place) -> Result<(),
     out.extend(b"\r\n")
 }
 
-/// Appends a request. An `Err` may leave a part of it.
+// Appends a request. An `Err` may leave a part of it.
 #[tactic(auto, unfolding(crate::specs::Generator::request_text, crate::specs::Generator::after_request))]
 fn push_request(out: &mut Bytes, place: Place, generator: &mut Generator) -> Result<(), NoMemory>
     ensures text { OnOk result (out.new ≡ out.old ++ request_text place.conn place.request generator.old.state) }
@@ -117,7 +117,7 @@ fn push_request(out: &mut Bytes, place: Place, generator: &mut Generator) -> Res
     }
 }
 
-/// Appends the requests of a connection.
+// Appends the requests of a connection.
 fn push_requests(
     out: &mut Bytes,
     conn: u32,

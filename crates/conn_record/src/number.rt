@@ -3,7 +3,7 @@ ghost use Rattle.std.specs.Prelude.{◌≡◌, ◌++◌, ◌∷◌, ◌<◌, ◌
 
 use kj_base::{digit_count, read_decimal};
 
-/// The number at the front, without leading zeros, which a LF follows, and what follows the LF.
+// The number at the front, without leading zeros, which a LF follows, and what follows the LF.
 pub(crate) fn read_number(octets: &[u8]) -> Option<(u64, &[u8])>
     ensures found { IfSome result (λ r. octets.now ≡ decimal r.0 ++ 10 ∷ r.1.now) }
     ensures fits { IfSome result (λ r. r.0 < 2 ^ 64) }

@@ -8,7 +8,7 @@ use itoa::Buffer;
 use kj_base::{Bytes, NoMemory};
 use std::alloc::Global;
 
-/// Appends a connection. An `Err` may leave a part of it.
+// Appends a connection. An `Err` may leave a part of it.
 pub(crate) fn push_conn(out: &mut Bytes, octets: &[u8]) -> Result<(), NoMemory>
     ensures { OnOk result (out.new ≡ out.old ++ conn_text octets.now) }
 {

@@ -33,7 +33,7 @@ impl From<NoMemory> for RecordRefused {
     }
 }
 
-/// The octets of the connection at the front, and what follows its text.
+// The octets of the connection at the front, and what follows its text.
 fn read_conn(bytes: &[u8]) -> Option<(&[u8], &[u8])>
     ensures { MatchOption result (HasNoConn bytes.now) (λ r. bytes.now ≡ conn_text r.0.now ++ r.1.now) }
 {

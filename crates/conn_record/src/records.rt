@@ -49,18 +49,21 @@ impl ConnectionOctets {
         self.items
     }
 
+    /// The octets of each connection in order.
     pub fn as_slice(&self) -> &[Bytes]
         ensures { result.now ≡ self.now }
     {
         self.items.as_slice()
     }
 
+    /// How many connections there are.
     pub fn len(&self) -> usize
         ensures { result ≡ length self.now }
     {
         self.items.len()
     }
 
+    /// Adds a connection behind the others.
     pub fn push(&mut self, octets: Bytes) -> Result<(), NoMemory>
         ensures ok { OnOk result (self.new ≡ self.old ++ octets ∷ []) }
         ensures err { OnErr result (self.new ≡ self.old) }

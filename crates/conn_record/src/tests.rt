@@ -5,7 +5,7 @@ use kj_base::{Bytes, NoMemory};
 use std::alloc::Global;
 use std::test::Fail;
 
-/// How many connections are whole, where the octets are no recording.
+// How many connections are whole, where the octets are no recording.
 fn whole_of(alloc: Global, text: &[u8]) -> Result<Option<u32>, NoMemory> {
     match read_records(alloc, text) {
         Ok(_records) => Ok(None),

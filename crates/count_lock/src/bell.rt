@@ -2,7 +2,7 @@
 use std::sync::Wait;
 use std::sync::atomic::{AtomicU64, Ordering};
 
-/// It has a cache line of its own, or nearly.
+// It has a cache line of its own, or nearly.
 #[derive(Drop)]
 pub(crate) struct Bell {
     rung: AtomicU64,
@@ -19,12 +19,12 @@ impl Bell {
         }
     }
 
-    /// How often it rang.
+    // How often it rang.
     pub(crate) fn rung(&self) -> u64 {
         self.rung.load(Ordering::SeqCst)
     }
 
-    /// Ends one sleep, where there is one.
+    // Ends one sleep, where there is one.
     pub(crate) fn ring_for_one(&self) {
         if self.sleepers.load(Ordering::SeqCst) != 0 {
             self.rung.fetch_add(1, Ordering::SeqCst);
@@ -32,7 +32,7 @@ impl Bell {
         }
     }
 
-    /// Rings where somebody sleeps.
+    // Rings where somebody sleeps.
     pub(crate) fn ring_for_sleepers(&self) {
         if self.sleepers.load(Ordering::SeqCst) != 0 {
             self.rung.fetch_add(1, Ordering::SeqCst);
@@ -40,7 +40,7 @@ impl Bell {
         }
     }
 
-    /// From now on a ring wakes.
+    // From now on a ring wakes.
     pub(crate) fn lie_down(&self) {
         self.sleepers.fetch_add(1, Ordering::SeqCst);
     }
@@ -49,7 +49,7 @@ impl Bell {
         self.sleepers.fetch_sub(1, Ordering::SeqCst);
     }
 
-    /// Sleeps until it rings, unless it has rung more often already.
+    // Sleeps until it rings, unless it has rung more often already.
     pub(crate) fn sleep<R: Wait>(&self, rt: &R, rung: u64) {
         self.rung.park(rt, (rung & 0xffff_ffff) as u32);
     }
@@ -58,12 +58,12 @@ impl Bell {
 // How many bells there are for those who hold tickets.
 const ROW: usize = 16;
 
-/// Where those sleep who wait for a lock.
+// Where those sleep who wait for a lock.
 #[derive(Drop)]
 pub(crate) struct Bells {
-    /// Those who wait until they may draw a ticket.
+    // Those who wait until they may draw a ticket.
     pub(crate) gate: Bell,
-    /// Those who wait for ticket n sleep at bell n modulo 16.
+    // Those who wait for ticket n sleep at bell n modulo 16.
     row: [Bell; ROW],
 }
 

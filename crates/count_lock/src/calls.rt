@@ -27,6 +27,7 @@ const SPIN: u32 = 128;
 const YIELDS: u32 = 4;
 
 impl<T: Kept> Pass<T> {
+    /// The number that its entries bear.
     pub fn number(&self) -> u32
         ensures { result ≡ number self.now }
     {
@@ -42,12 +43,14 @@ impl<T: Kept> Pass<T> {
 }
 
 impl<T> Held<T> {
+    /// The value that is out.
     pub fn value(&self) -> &T
         ensures { result.now ≡ self.now.value }
     {
         &self.value
     }
 
+    /// The value that is out, to be changed.
     pub fn value_mut(&mut self) -> &mut T
         ensures* writes_back { sem 𝓛 (LendsValue T.row self.entry result) }
         ensures value { result.now ≡ self.old.value }
@@ -293,6 +296,7 @@ impl<T: Kept> Held<T> {
         lock.wake_next(served);
     }
 
+    /// Gives the value back as it was; the history stays.
     pub fn release_unchanged(self, lock: &CountLock<T>, pass: &mut Pass<T>)
         requires lock { IsPassOf lock.now pass.old × HasTurn pass.old }
         requires value { (T.entries self.value ≡ seen pass.old) × (T.constant self.value ≡ constant pass.old) }
@@ -329,6 +333,7 @@ impl<T: Kept> Held<T> {
 }
 
 impl<T: Kept> Noted<T> {
+    /// The value that is out, by which its words can be told.
     pub fn value(&self) -> &T
         ensures { result.now ≡ self.now.value }
     {

@@ -106,6 +106,7 @@ impl Board {
         }
     }
 
+    /// Queues a request, which gets the next number.
     pub fn submit(&mut self, caller: u32, step: StepId, words: Words) -> Result<u32, NotTaken>
         ensures { (self.new, submit_reply result) ≡ submitted self.old caller step words }
     {
@@ -151,6 +152,7 @@ impl Board {
         }
     }
 
+    /// Ends a request that runs.
     pub fn finish(&mut self, request: u32, outcome: Outcome)
         requires { IsRunning self.old request }
         ensures { (self.new, Done) ≡ finished self.old request outcome }
@@ -162,6 +164,7 @@ impl Board {
         set_state_at(&mut self.requests, at, State::Done(outcome));
     }
 
+    /// Withdraws a request that waits, or asks one that runs to end.
     pub fn cancel(&mut self, request: u32) -> Cancelling
         requires { request < length self.old.requests }
         ensures { (self.new, cancel_reply result) ≡ cancelled self.old request }

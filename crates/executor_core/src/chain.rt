@@ -5,23 +5,23 @@ ghost use Rattle.executor_core.specs.Chains.{Marks, IsAfter, IsChain, Without, W
 use kj_base::NoMemory;
 use std::alloc::Global;
 
-/// A set of numbers below a limit. A number above all that came before it is added, and any number goes, in constant time.
+// A set of numbers below a limit. A number above all that came before it is added, and any number goes, in constant time.
 #[derive(Drop)]
 pub(crate) struct Chain {
-    /// The least number of the set, or else the bound.
+    // The least number of the set, or else the bound.
     pub(crate) first: usize,
-    /// One more than the greatest number of the set, or 0.
+    // One more than the greatest number of the set, or 0.
     pub(crate) end: usize,
-    /// All numbers that ever came are below it.
+    // All numbers that ever came are below it.
     pub(crate) bound: usize,
-    /// For each number of the set: one more than the one before it, or 0.
+    // For each number of the set: one more than the one before it, or 0.
     pub(crate) before: Vec<usize>,
-    /// For each number of the set: the one after it, or else the bound.
+    // For each number of the set: the one after it, or else the bound.
     pub(crate) after: Vec<usize>,
 }
 
 impl Chain {
-    /// Empty. It makes the room for all numbers below the limit.
+    // Empty. It makes the room for all numbers below the limit.
     pub(crate) fn new(alloc: Global, limit: usize) -> Result<Chain, NoMemory>
         ensures chain { IfOk result (λ c. (w : Marks) → ((k : ℕ) → w k ≡ 0) → IsChain w limit c) }
         ensures bound { IfOk result (λ c. c.bound ≡ 0) }
@@ -35,7 +35,7 @@ impl Chain {
         })
     }
 
-    /// The least number.
+    // The least number.
     pub(crate) fn least(&self) -> Option<usize>
         ensures some { IfSome result (λ r. (w : Marks) (limit : ℕ) → IsChain w limit self.now → (w r ≡ 1) × (r < limit) × ((k : ℕ) → k < r → w k ≡ 0)) }
         ensures none { IfNone result ((w : Marks) (limit : ℕ) → IsChain w limit self.now → (k : ℕ) → w k ≡ 0) }
@@ -53,7 +53,7 @@ impl Chain {
         self.bound
     }
 
-    /// The number after one of the set, or else the bound.
+    // The number after one of the set, or else the bound.
     pub(crate) fn after(&self, at: usize) -> usize
         requires { (w : Marks) × (limit : ℕ) × IsChain w limit self.now × (w at ≡ 1) }
         ensures { (w : Marks) (limit : ℕ) → IsChain w limit self.now → w at ≡ 1 → IsAfter w self.now.bound at result }
@@ -61,7 +61,7 @@ impl Chain {
         self.after[at]
     }
 
-    /// Adds a number that is not below the bound.
+    // Adds a number that is not below the bound.
     pub(crate) fn push(&mut self, at: usize)
         requires room { (self.old.end ≤ self.old.bound) × (self.old.bound ≤ at) × (at < length self.old.before.items) × (at < length self.old.after.items) }
         ensures chain { (w v : Marks) (limit : ℕ) → IsChain w limit self.old → With w v at → IsChain v limit self.new }
@@ -74,7 +74,7 @@ impl Chain {
         self.bound = at + 1;
     }
 
-    /// Takes a number out of the set.
+    // Takes a number out of the set.
     pub(crate) fn remove(&mut self, at: usize)
         requires { (w : Marks) × (limit : ℕ) × IsChain w limit self.old × (w at ≡ 1) }
         ensures chain { (w v : Marks) (limit : ℕ) → IsChain w limit self.old → w at ≡ 1 → Without w v at → IsChain v limit self.new }
@@ -86,7 +86,7 @@ impl Chain {
         self.link_right(before, after);
     }
 
-    /// Takes all numbers out of the set.
+    // Takes all numbers out of the set.
     pub(crate) fn clear(&mut self)
         ensures chain { (w v : Marks) (limit : ℕ) → IsChain w limit self.old → ((k : ℕ) → v k ≡ 0) → IsChain v limit self.new }
         ensures bound { self.new.bound ≡ self.old.bound }

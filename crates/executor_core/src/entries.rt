@@ -36,6 +36,7 @@ impl Entries {
         self.items
     }
 
+    /// The entries in order.
     pub fn as_slice(&self) -> &[Entry]
         ensures { result.now ≡ self.now }
     {

@@ -50,7 +50,7 @@ impl Request {
         }
     }
 
-    /// What closing the board does to it.
+    // What closing the board does to it.
     pub(crate) fn shut(&mut self)
         ensures { self.new ≡ shut self.old }
     {

@@ -7,7 +7,7 @@ ghost use Rattle.executor_core.specs.declared.chain.Chain.{Chain};
 use crate::chain::Chain;
 use crate::request::{Request, State};
 
-/// The least request that was asked to end and isn't told yet: `from` or one of those behind it that run.
+// The least request that was asked to end and isn't told yet: `from` or one of those behind it that run.
 pub(crate) fn least_canceling(all: &[Request], running: &Chain, from: usize) -> Option<usize>
     requires { (limit : ℕ) × (waiting : Chain) × Linked limit all.now waiting running.now from }
     ensures some { IfSome result (λ r. (least is_canceling all.now ≡ Some r) × (r < length all.now) × (marks running_state all.now r ≡ 1) × ((k : ℕ) → k < r → marks canceling_state all.now k ≡ 0)) }
@@ -23,7 +23,7 @@ pub(crate) fn least_canceling(all: &[Request], running: &Chain, from: usize) -> 
     None
 }
 
-/// What closing the board does to each request.
+// What closing the board does to each request.
 pub(crate) fn shut_all(all: &mut Vec<Request>)
     ensures items { all.new.items ≡ map shut all.old.items }
     ensures room { vec_capacity all.new ≡ vec_capacity all.old }
@@ -39,7 +39,7 @@ fn shut_each(all: &mut [Request])
     }
 }
 
-/// Puts one request into another state.
+// Puts one request into another state.
 pub(crate) fn set_state_at(all: &mut Vec<Request>, at: usize, state: State)
     requires { at < length all.old.items }
     ensures items { all.new.items ≡ set_state all.old.items at state }
@@ -48,7 +48,7 @@ pub(crate) fn set_state_at(all: &mut Vec<Request>, at: usize, state: State)
     all[at].state = state;
 }
 
-/// The new number in the place of the old one.
+// The new number in the place of the old one.
 pub(crate) fn instead(from: usize, old: usize, new: usize) -> usize
     ensures { ((from ≡ old) × (result ≡ new)) ⊎ ((from ≢ old) × (result ≡ from)) }
 {

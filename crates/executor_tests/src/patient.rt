@@ -43,7 +43,7 @@ pub fn serve_patiently<W: Wait>(
     }
 }
 
-/// Runs the request until it is to end where the target is patient.
+// Runs the request until it is to end where the target is patient.
 fn run<W: Wait>(
     rt: &W,
     executor: &Executor<Item, u64>,

@@ -40,7 +40,7 @@ impl Served {
     }
 }
 
-/// One more.
+// One more.
 pub(crate) fn count(of: &mut u32) {
     *of = of.saturating_add(1);
 }

@@ -2,6 +2,7 @@
 use Rattle.std.specs.Prelude.{◌≡◌, ◌≢◌, ℕ, ◌+◌, ◌-◌, ◌<◌, ◌≤◌, ◌⊎◌, false, List, [], ◌∷◌, ◌++◌, length, drop, ⊤}
 use Rattle.http_heads.specs.declared.field.Head.{Head as RequestHead}
 use Rattle.http_heads.specs.declared.Framing.TheVariants as framings
+use Rattle.http_heads.specs.declared.front.TheConstants.{MAX_OCTETS}
 use Rattle.http_heads.specs.Ending.{stops_line, IsFirstStop}
 use Rattle.http_heads.specs.Heads.{IsHead, StartsWithHead, HasNoHead, NeverHasHead, StartsWell}
 use Rattle.http_heads.specs.Framing.{framing_of}
@@ -75,10 +76,10 @@ pub record HasBegun (bytes : List ℕ) (part : Part) : Type 0 where
 
 -- these octets came behind the last whole request
 abbrev pub IsReading : Part → List ℕ → Type 0
-IsReading (parts.Line octets) bytes = (skip_pairs bytes ≡ octets) × HasNoStop octets × (length octets < 65536)
-IsReading (parts.Head octets) bytes = (skip_pairs bytes ≡ octets) × HasNoHead octets × (length octets < 65536) × HasStart octets
+IsReading (parts.Line octets) bytes = (skip_pairs bytes ≡ octets) × HasNoStop octets × (length octets < MAX_OCTETS)
+IsReading (parts.Head octets) bytes = (skip_pairs bytes ≡ octets) × HasNoHead octets × (length octets < MAX_OCTETS) × HasStart octets
 IsReading (parts.Crowded len) bytes =
-    (length (skip_pairs bytes) ≡ len) × NeverHasHead (skip_pairs bytes) × (len < 65536) × HasStart (skip_pairs bytes)
+    (length (skip_pairs bytes) ≡ len) × NeverHasHead (skip_pairs bytes) × (len < MAX_OCTETS) × HasStart (skip_pairs bytes)
 IsReading (parts.Sized head lengths) bytes = HasBegun (skip_pairs bytes) (parts.Sized head lengths)
 IsReading (parts.Chunked head chunks) bytes = HasBegun (skip_pairs bytes) (parts.Chunked head chunks)
 
@@ -99,17 +100,17 @@ BodyReadsOn head before piece (Fault code) =
 -- what reading a head says of the octets, of which no head ends within the first
 abbrev pub Opens : ℕ → List ℕ → Opening → Type 0
 Opens from bytes Line = ⊥
-Opens from bytes Head = HasNoHead bytes × (length bytes < 65536) × StartsWell bytes
-Opens from bytes Crowded = NeverHasHead bytes × (length bytes < 65536) × StartsWell bytes
+Opens from bytes Head = HasNoHead bytes × (length bytes < MAX_OCTETS) × StartsWell bytes
+Opens from bytes Crowded = NeverHasHead bytes × (length bytes < MAX_OCTETS) × StartsWell bytes
 Opens from bytes (Read (More part)) = HasBegun bytes part
 Opens from bytes (Read (Whole request left)) = (left + from < length bytes) × IsRequest bytes request (drop (length bytes - left) bytes)
 Opens from bytes (Read (Fault code)) = 0 < length bytes → (more : List ℕ) → IsFault (bytes ++ more) code
 
 -- the same of octets that may still be less than a line; what follows them is no part of a CRLF pair before them
 abbrev pub Begins : ℕ → List ℕ → Opening → Type 0
-Begins from bytes Line = HasNoStop bytes × (length bytes < 65536)
-Begins from bytes Head = HasNoHead bytes × (length bytes < 65536) × HasStart bytes
-Begins from bytes Crowded = NeverHasHead bytes × (length bytes < 65536) × HasStart bytes
+Begins from bytes Line = HasNoStop bytes × (length bytes < MAX_OCTETS)
+Begins from bytes Head = HasNoHead bytes × (length bytes < MAX_OCTETS) × HasStart bytes
+Begins from bytes Crowded = NeverHasHead bytes × (length bytes < MAX_OCTETS) × HasStart bytes
 Begins from bytes (Read (More part)) = HasBegun bytes part
 Begins from bytes (Read (Whole request left)) = (left + from < length bytes) × IsRequest bytes request (drop (length bytes - left) bytes)
 Begins from bytes (Read (Fault code)) = (bytes ≢ []) × (bytes ≢ 13 ∷ []) × ((more : List ℕ) → IsFault (bytes ++ more) code)

@@ -5,6 +5,7 @@ use Rattle.http_heads.specs.declared.field.Field.{Field}
 use Rattle.http_heads.specs.declared.field.Head.{Head}
 use Rattle.http_heads.specs.declared.Framing.{Framing}
 use Rattle.http_heads.specs.declared.Framing.TheVariants.{Empty, Length, Chunked, Fault}
+use Rattle.http_heads.specs.declared.front.TheConstants.{MAX_OCTETS}
 use Rattle.http_heads.specs.Heads.{IsHead, StartsWithHead, HasNoHead, StartsWell}
 use Rattle.http_heads.specs.Framing.{framing_of, persists}
 use Rattle.http_frames.specs.Chunks.{Body, HasNoBody, Waits}
@@ -87,4 +88,4 @@ pub record AwaitsBody (bytes : List ℕ) : Type 0 where
 
 -- Octets behind the last whole request, without CRLF pairs before them, for which the connection doesn't close.
 abbrev pub Awaits : List ℕ → Type 0
-Awaits bytes = (HasNoHead bytes × (length bytes < 65536) × StartsWell bytes) ⊎ AwaitsBody bytes
+Awaits bytes = (HasNoHead bytes × (length bytes < MAX_OCTETS) × StartsWell bytes) ⊎ AwaitsBody bytes

@@ -1,8 +1,9 @@
 -- The texts of answers (RFC 9112, sections 4, 6 and 7.1).
-use Rattle.std.specs.Prelude.{ℕ, zero, suc, ◌+◌, ◌/◌, Bool, List, [], ◌∷◌, ◌++◌, ◌&&◌, ◌||◌, ◌==◌, length, take, drop, codes, decimal, bytes_eq, if◌then◌else◌}
+use Rattle.std.specs.Prelude.{ℕ, zero, suc, ◌+◌, ◌-◌, ◌/◌, Bool, List, [], ◌∷◌, ◌++◌, ◌&&◌, ◌||◌, ◌==◌, length, take, drop, codes, decimal, bytes_eq, if◌then◌else◌}
 use Rattle.http_frames.specs.Written.{chunk_of}
 use Rattle.http_core.specs.declared.message.Request.{Request}
 use Rattle.http_core.specs.declared.message.Answer.{Answer}
+use Rattle.http_core.specs.declared.text.TheConstants.{CHUNK}
 
 -- the reason phrases that are used; others are empty
 abbrev pub reason : ℕ → List ℕ
@@ -42,11 +43,11 @@ connection_line minor closes =
 -- so many chunks of 4,096 octets each; the last may be shorter
 abbrev pub chunks : ℕ → List ℕ → List ℕ
 chunks zero octets = []
-chunks (suc n) octets = chunk_of (take 4096 octets) ++ chunks n (drop 4096 octets)
+chunks (suc n) octets = chunk_of (take CHUNK octets) ++ chunks n (drop CHUNK octets)
 
 -- as many chunks as the octets fill
 unfoldable pub all_chunks : List ℕ → List ℕ
-all_chunks octets = chunks ((length octets + 4095) / 4096) octets
+all_chunks octets = chunks ((length octets + (CHUNK - 1)) / CHUNK) octets
 
 -- all chunks and the last one
 unfoldable pub chunked_text : List ℕ → List ℕ

@@ -40,14 +40,14 @@ pub enum ConnectionState {
     Broken,
 }
 
-/// What came of a piece.
+// What came of a piece.
 #[derive(Debug, Drop)]
 pub(crate) enum AfterPiece {
     More(Part),
     Settled(End),
 }
 
-/// Answers a request, and says whether the connection goes on after it.
+// Answers a request, and says whether the connection goes on after it.
 fn answer<S: Service>(
     alloc: Global,
     service: &mut S,
@@ -65,7 +65,7 @@ fn answer<S: Service>(
     Ok(goes_on)
 }
 
-/// The last octets of a piece.
+// The last octets of a piece.
 fn last(piece: &[u8], left: usize) -> &[u8]
     ensures end { left ≤ length piece.now → result.now ≡ drop (length piece.now - left) piece.now }
     ensures few { length result.now ≤ left }
@@ -77,7 +77,7 @@ fn last(piece: &[u8], left: usize) -> &[u8]
     }
 }
 
-/// Answers the requests that are whole with a piece.
+// Answers the requests that are whole with a piece.
 fn serve<S: Service>(
     alloc: Global,
     service: &mut S,
@@ -112,7 +112,7 @@ fn serve<S: Service>(
     }
 }
 
-/// Nothing of a request came but CRLF pairs before it.
+// Nothing of a request came but CRLF pairs before it.
 fn is_idle(part: &Part) -> bool
     ensures { result ≡ is_idle part.now }
 {

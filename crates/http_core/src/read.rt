@@ -40,16 +40,16 @@ pub enum RequestRead {
     Fault(u16),
 }
 
-/// What stands at the front, where a request begins.
+// What stands at the front, where a request begins.
 #[derive(Debug, Drop)]
 enum Opening {
-    /// Its first line isn't whole.
+    // Its first line isn't whole.
     Line,
-    /// Its head isn't whole.
+    // Its head isn't whole.
     Head,
-    /// Its head isn't whole, and has too many fields.
+    // Its head isn't whole, and has too many fields.
     Crowded,
-    /// Its head is whole, or can't be one.
+    // Its head is whole, or can't be one.
     Read(RequestRead),
 }
 
@@ -77,7 +77,7 @@ pub fn skip_pairs(bytes: &[u8]) -> &[u8]
     rest
 }
 
-/// Reads the next octets of a body of known length.
+// Reads the next octets of a body of known length.
 fn read_sized(head: Head, mut lengths: Lengths, piece: &[u8]) -> Result<RequestRead, NoMemory>
     requires { lengths.phase ≡ Phase.Going }
     ensures ready { IfOk result IsReadyRead }
@@ -93,7 +93,7 @@ fn read_sized(head: Head, mut lengths: Lengths, piece: &[u8]) -> Result<RequestR
     }
 }
 
-/// Reads the next octets of a body in chunks.
+// Reads the next octets of a body in chunks.
 fn read_chunked(head: Head, mut chunks: Chunks, piece: &[u8]) -> Result<RequestRead, NoMemory>
     requires { chunks.phase ≡ Phase.Going }
     ensures ready { IfOk result IsReadyRead }
@@ -109,7 +109,7 @@ fn read_chunked(head: Head, mut chunks: Chunks, piece: &[u8]) -> Result<RequestR
     }
 }
 
-/// Reads what stands behind a head.
+// Reads what stands behind a head.
 fn read_behind(
     alloc: Global,
     spare: &mut Spare,
@@ -134,7 +134,7 @@ fn read_behind(
     }
 }
 
-/// Reads a request whose head may be whole.
+// Reads a request whose head may be whole.
 fn read_front(alloc: Global, spare: &mut Spare, bytes: &[u8]) -> Result<Opening, NoMemory>
     ensures ready { IfOk result IsReadyOpening }
     ensures opens { IfOk result (λ opening. (from : ℕ) → NoHeadWithin from bytes.now → Opens from bytes.now opening) }
@@ -152,8 +152,8 @@ fn read_front(alloc: Global, spare: &mut Spare, bytes: &[u8]) -> Result<Opening,
     }
 }
 
-/// Reads a request once its first line is whole, or can't be one. No stop of it stands before
-/// `from`.
+// Reads a request once its first line is whole, or can't be one. No stop of it stands before
+// `from`.
 fn begin_line(
     alloc: Global,
     spare: &mut Spare,
@@ -172,7 +172,7 @@ fn begin_line(
     }
 }
 
-/// Reads a request whose first line was whole, once its head may be.
+// Reads a request whose first line was whole, once its head may be.
 fn begin_head(
     alloc: Global,
     spare: &mut Spare,
@@ -221,7 +221,7 @@ pub fn open(alloc: Global, spare: &mut Spare, piece: &[u8]) -> Result<RequestRea
     }
 }
 
-/// Reads on in a first line.
+// Reads on in a first line.
 fn read_in_line(
     alloc: Global,
     spare: &mut Spare,
@@ -251,7 +251,7 @@ fn read_in_line(
     }
 }
 
-/// Reads on in a head.
+// Reads on in a head.
 fn read_in_head(
     alloc: Global,
     spare: &mut Spare,
@@ -274,8 +274,8 @@ fn read_in_head(
     }
 }
 
-/// Reads on in a head that has too many fields: it is refused where it has as many octets as a
-/// head may have.
+// Reads on in a head that has too many fields: it is refused where it has as many octets as a
+// head may have.
 fn read_in_crowd(len: usize, piece: &[u8]) -> RequestRead
     ensures ready { IsReadyRead result }
     ensures steps { (bytes : List ℕ) → IsReading (Part.Crowded len) bytes → ReadsOn bytes piece.now result }

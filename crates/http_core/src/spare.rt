@@ -7,7 +7,7 @@ use kj_base::{Bytes, NoMemory};
 use std::alloc::Global;
 use std::mem;
 
-/// A larger body is given back.
+// A larger body is given back.
 const KEPT: usize = 65_536;
 
 /// Nothing that is read into it depends on what it has.

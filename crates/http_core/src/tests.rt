@@ -4,7 +4,7 @@ use std::alloc::Global;
 use std::process::Abort;
 use std::test::Fail;
 
-/// Octets of a connection, and what is written for them.
+// Octets of a connection, and what is written for them.
 #[derive(Clone, Copy)]
 struct Case {
     octets: &'static [u8],
@@ -47,7 +47,7 @@ fn keep_output<S: Service>(
     output.extend(ready.as_slice())
 }
 
-/// Feeds octets in two pieces, cut there, and ends; the output is taken behind each piece.
+// Feeds octets in two pieces, cut there, and ends; the output is taken behind each piece.
 fn feed_cut<S: Service>(
     connection: &mut Connection<S>,
     octets: &[u8],
@@ -62,7 +62,7 @@ fn feed_cut<S: Service>(
     keep_output(connection, output)
 }
 
-/// What is written for octets that come in two pieces, cut there.
+// What is written for octets that come in two pieces, cut there.
 fn replies<S: Service + Drop>(
     alloc: Global,
     service: S,
@@ -75,7 +75,7 @@ fn replies<S: Service + Drop>(
     Ok(output)
 }
 
-/// What is done with a connection.
+// What is done with a connection.
 #[derive(Clone, Copy)]
 enum Move<'a> {
     Feed(&'a [u8]),
@@ -91,7 +91,7 @@ fn fed_word(fed: Fed) -> &'static [u8] {
     }
 }
 
-/// Makes a move, and appends what it gives.
+// Makes a move, and appends what it gives.
 fn make_move<S: Service>(
     connection: &mut Connection<S>,
     what: Move<'_>,
@@ -122,7 +122,7 @@ fn make_moves<S: Service>(
     Ok(())
 }
 
-/// What these moves give: a word for each piece, and the output where it is taken.
+// What these moves give: a word for each piece, and the output where it is taken.
 fn story_of<S: Service + Drop>(
     alloc: Global,
     service: S,
@@ -164,7 +164,7 @@ const OK_EMPTY: &[u8] = b"HTTP/1.1 200 OK\r\nContent-Length: 0\r\n\r\n";
 
 const FAULT: &[u8] = b"HTTP/1.1 400 Bad Request\r\nContent-Length: 0\r\nConnection: close\r\n\r\n";
 
-/// The text for a method or a coding that isn't built.
+// The text for a method or a coding that isn't built.
 const NOT_BUILT: &[u8] =
     b"HTTP/1.1 501 Not Implemented\r\nContent-Length: 0\r\nConnection: close\r\n\r\n";
 
@@ -398,7 +398,7 @@ fn pairs_before_a_request_count_for_nothing(rt: HostRuntime) -> Result<(), Fail>
     Ok(())
 }
 
-/// A head of 28 octets, a value of so many, and two line ends of two.
+// A head of 28 octets, a value of so many, and two line ends of two.
 fn head_with_value(alloc: Global, count: usize) -> Result<Bytes, NoMemory> {
     let mut octets = Bytes::from_slice(alloc, b"GET / HTTP/1.1\r\nHost: a\r\nX: ")?;
     octets.extend(many(alloc, b"x", count)?.as_slice())?;
@@ -428,14 +428,14 @@ fn heads_have_a_limit(rt: HostRuntime) -> Result<(), Fail> {
     Ok(())
 }
 
-/// Moves, and what they give.
+// Moves, and what they give.
 #[derive(Clone, Copy)]
 struct Story {
     moves: &'static [Move<'static>],
     story: &'static [u8],
 }
 
-/// What follows a last request, the end or a drain is dropped.
+// What follows a last request, the end or a drain is dropped.
 static STORIES: [Story; 3] = [
     Story {
         moves: &[
@@ -480,7 +480,7 @@ fn octets_behind_an_end_are_dropped(rt: HostRuntime) -> Result<(), Fail> {
     Ok(())
 }
 
-/// Octets that begin no request, and how many of them there are when this is seen.
+// Octets that begin no request, and how many of them there are when this is seen.
 static NO_REQUESTS: [(&[u8], usize); 7] = [
     (b"HELLO\n GET / HTTP/1.1\r\nHost: a\r\n\r\n", 6),
     (b"\r\n\r\nHELLO\r\n\r\n", 11),
@@ -507,7 +507,7 @@ fn count_until_closed<S: Service>(
     Ok(0)
 }
 
-/// How many octets are taken, each in a piece of its own, until the connection closes.
+// How many octets are taken, each in a piece of its own, until the connection closes.
 fn taken_until_closed(alloc: Global, octets: &[u8]) -> Result<usize, NoMemory> {
     let mut connection = connection_of(alloc, Echo);
     count_until_closed(&mut connection, octets)
@@ -561,7 +561,7 @@ fn logged(alloc: Global) -> Connection<Log> {
     connection_of(alloc, Log { targets })
 }
 
-/// Octets come in two pieces, cut there, with those of another connection between them.
+// Octets come in two pieces, cut there, with those of another connection between them.
 fn feed_both(
     connection: &mut Connection<Log>,
     other: &mut Connection<Log>,
@@ -576,7 +576,7 @@ fn feed_both(
     end(other)
 }
 
-/// What the services were asked then.
+// What the services were asked then.
 fn asked(alloc: Global, octets: &[u8], at: usize) -> Result<Bytes, NoMemory> {
     let mut connection = logged(alloc);
     let mut other = logged(alloc);
@@ -598,7 +598,7 @@ fn a_service_is_asked_once_for_each_request_in_order(rt: HostRuntime) -> Result<
     Ok(())
 }
 
-/// The answer in chunks of a body of so many octets.
+// The answer in chunks of a body of so many octets.
 fn chunked_answer(alloc: Global, count: usize) -> Result<Bytes, NoMemory> {
     let body = many(alloc, b"x", count)?;
     let mut connection = connection_of(alloc, Fixed { body });
@@ -606,7 +606,7 @@ fn chunked_answer(alloc: Global, count: usize) -> Result<Bytes, NoMemory> {
     Ok(take_output(&mut connection))
 }
 
-/// The same by hand: a chunk of 4,096 octets, and what follows it.
+// The same by hand: a chunk of 4,096 octets, and what follows it.
 fn one_chunk_and(alloc: Global, behind: &[u8]) -> Result<Bytes, NoMemory> {
     let head = b"HTTP/1.1 200 OK\r\nTransfer-Encoding: chunked\r\n\r\n1000\r\n";
     let mut text = Bytes::from_slice(alloc, head)?;
@@ -626,7 +626,7 @@ fn chunks_of_answers_have_4096_octets(rt: HostRuntime) -> Result<(), Fail> {
     Ok(())
 }
 
-/// Answers each request with this body in chunks, and tells nothing.
+// Answers each request with this body in chunks, and tells nothing.
 #[derive(Debug, Drop)]
 struct Fixed {
     body: Bytes,
@@ -647,7 +647,7 @@ impl Service for Fixed {
     }
 }
 
-/// Keeps the targets that it is asked for, and tells nothing.
+// Keeps the targets that it is asked for, and tells nothing.
 #[derive(Debug, Drop)]
 struct Log {
     targets: Bytes,

@@ -8,7 +8,7 @@ use itoa::Buffer;
 use kj_base::{Bytes, NoMemory};
 use std::alloc::Global;
 
-/// The octets of a chunk of an answer, but for the last.
+// The octets of a chunk of an answer, but for the last.
 const CHUNK: usize = 4096;
 
 fn reason(status: u16) -> &'static [u8]
@@ -85,7 +85,7 @@ fn push_connection(out: &mut Bytes, minor: u8, closes: bool) -> Result<(), NoMem
     }
 }
 
-/// Appends the octets in chunks.
+// Appends the octets in chunks.
 fn push_chunks(alloc: Global, out: &mut Bytes, octets: &[u8]) -> Result<(), NoMemory>
     ensures ok { OnOk result (out.new ≡ out.old ++ all_chunks octets.now) }
     ensures err { OnErr result (take (length out.old) out.new ≡ out.old) }
@@ -99,7 +99,7 @@ fn push_chunks(alloc: Global, out: &mut Bytes, octets: &[u8]) -> Result<(), NoMe
     Ok(())
 }
 
-/// Appends the octets in chunks, with the last one.
+// Appends the octets in chunks, with the last one.
 #[tactic(auto, unfolding(crate::specs::Text::chunked_text))]
 fn push_chunked(alloc: Global, out: &mut Bytes, octets: &[u8]) -> Result<(), NoMemory>
     ensures ok { OnOk result (out.new ≡ out.old ++ chunked_text octets.now) }
@@ -110,7 +110,7 @@ fn push_chunked(alloc: Global, out: &mut Bytes, octets: &[u8]) -> Result<(), NoM
     Ok(())
 }
 
-/// Appends the body of an answer, as its request wants it.
+// Appends the body of an answer, as its request wants it.
 #[tactic(auto, unfolding(crate::specs::Text::body_text))]
 fn push_body(
     alloc: Global,
@@ -131,7 +131,7 @@ fn push_body(
     out.extend(answer.body.as_slice())
 }
 
-/// Appends the lines of an answer, with the empty one.
+// Appends the lines of an answer, with the empty one.
 #[tactic(auto, unfolding(crate::specs::Text::head_text))]
 fn push_head(out: &mut Bytes, minor: u8, answer: &Answer, closes: bool) -> Result<(), NoMemory>
     ensures ok { OnOk result (out.new ≡ out.old ++ head_text minor answer.now closes) }
@@ -143,7 +143,7 @@ fn push_head(out: &mut Bytes, minor: u8, answer: &Answer, closes: bool) -> Resul
     out.extend(b"\r\n")?;
     Ok(())
 }
-/// Appends the text of an answer; after want of memory a part of it may stand behind the octets.
+// Appends the text of an answer; after want of memory a part of it may stand behind the octets.
 #[tactic(auto, unfolding(crate::specs::Text::text))]
 fn append_answer(
     alloc: Global,
@@ -160,7 +160,7 @@ fn append_answer(
     Ok(())
 }
 
-/// Appends the text of an answer.
+// Appends the text of an answer.
 pub(crate) fn push_answer(
     alloc: Global,
     out: &mut Bytes,
@@ -181,7 +181,7 @@ pub(crate) fn push_answer(
     }
 }
 
-/// Appends the text of a fault.
+// Appends the text of a fault.
 #[tactic(auto, unfolding(crate::specs::Text::fault_text))]
 pub(crate) fn push_fault(out: &mut Bytes, code: u16) -> Result<(), NoMemory>
     ensures ok { OnOk result (out.new ≡ out.old ++ fault_text code) }

@@ -6,7 +6,9 @@ use Rattle.std.specs.Str.Parse.{digits_value}
 use Rattle.httparse.specs.Ascii.{semicolon}
 use Rattle.httparse.specs.Grammar.{is_value_byte, skip_ows}
 use Rattle.http_heads.specs.declared.field.Field.{Field}
+use Rattle.http_heads.specs.declared.front.TheConstants.{MAX_BODY, MAX_OCTETS}
 use Rattle.http_heads.specs.Section.{StartsWithSection, HasNoSection}
+use Rattle.http_frames.specs.declared.line.TheConstants.{MAX_LINE}
 
 -- how many hexadecimal digits the line begins with
 abbrev pub digit_count : List ℕ → ℕ
@@ -21,7 +23,7 @@ is_extension (b ∷ bs) = (b == semicolon) && list_all is_value_byte bs
 abbrev pub is_size_line : List ℕ → Bool
 is_size_line line =
     (nat_lt 0 (digit_count line) && nat_le (digit_count line) 16)
-    && (nat_le (length line) 4094 && is_extension (skip_ows (drop (digit_count line) line)))
+    && (nat_le (length line) MAX_LINE && is_extension (skip_ows (drop (digit_count line) line)))
 
 -- the number that the line begins with
 abbrev pub size_of : List ℕ → ℕ
@@ -66,7 +68,7 @@ Chunked (c ∷ cs) bytes body trailer rest =
 pub record Body (bytes body : List ℕ) (trailer : List Field) (rest : List ℕ) : Type 0 where
   pub chunks : List Chunk
   pub text : Chunked chunks bytes body trailer rest
-  pub small : length body ≤ 16777216
+  pub small : length body ≤ MAX_BODY
 
 -- no prefix is a body
 abbrev pub HasNoBody : List ℕ → Type 0
@@ -98,7 +100,7 @@ AreChunks (c ∷ cs) = IsChunk c × AreChunks cs
 -- no CRLF among the octets, which may be the beginning of a line
 pub record AwaitsLine (tail : List ℕ) : Type 0 where
   pub no_end : (line rest : List ℕ) → tail ≡ line_text line rest → ⊥
-  pub short : length tail ≤ 4096
+  pub short : length tail ≤ MAX_LINE + 2
 
 -- the line of a chunk whose data fits the room, and less than the data and a CRLF
 pub record AwaitsData (room : ℕ) (tail : List ℕ) : Type 0 where
@@ -117,13 +119,13 @@ pub record AwaitsTrailer (tail : List ℕ) : Type 0 where
   pub last : IsLast line
   pub text : tail ≡ line_text line rest
   pub none : HasNoSection rest
-  pub short : length rest < 65536
+  pub short : length rest < MAX_OCTETS
 
 -- chunks, and then a beginning of a line, of a chunk or of the last chunk that may still become one
 pub record Waits (bytes : List ℕ) : Type 0 where
   pub chunks : List Chunk
   pub are : AreChunks chunks
-  pub small : length (contents chunks) ≤ 16777216
+  pub small : length (contents chunks) ≤ MAX_BODY
   pub tail : List ℕ
   pub text : bytes ≡ texts chunks tail
-  pub awaits : AwaitsLine tail ⊎ (AwaitsData (16777216 - length (contents chunks)) tail ⊎ AwaitsTrailer tail)
+  pub awaits : AwaitsLine tail ⊎ (AwaitsData (MAX_BODY - length (contents chunks)) tail ⊎ AwaitsTrailer tail)

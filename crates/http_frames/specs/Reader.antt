@@ -1,6 +1,8 @@
 -- What a reader of a chunked body has of the octets so far.
 use Rattle.std.specs.Prelude.{◌≡◌, ℕ, ◌+◌, ◌<◌, ◌≤◌, List, [], ◌∷◌, ◌++◌, length, IsTrue, ⊤}
+use Rattle.http_heads.specs.declared.front.TheConstants.{MAX_BODY, MAX_OCTETS}
 use Rattle.http_heads.specs.Section.{HasNoSection, NeverHasSection}
+use Rattle.http_frames.specs.declared.line.TheConstants.{MAX_LINE}
 use Rattle.http_frames.specs.declared.reader.Stage.{Stage}
 use Rattle.http_frames.specs.declared.reader.Stage.TheVariants as stages
 use Rattle.http_frames.specs.Chunks.{is_size_line, size_of, line_text, Chunk, IsLast, texts, contents, AreChunks, NoCr}
@@ -41,14 +43,14 @@ pub record IsReadAs (stage : Stage) (pending body bytes : List ℕ) : Type 0 whe
 
 -- what holds of the kept octets by themselves
 abbrev pub IsKept : Stage → List ℕ → List ℕ → Type 0
-IsKept stages.Line pending body = NoCr pending × (length pending ≤ 4094)
-IsKept stages.LineEnd pending body = NoCr pending × (length pending ≤ 4094)
-IsKept (stages.Data left) pending body = (0 < left) × (length body + left ≤ 16777216)
+IsKept stages.Line pending body = NoCr pending × (length pending ≤ MAX_LINE)
+IsKept stages.LineEnd pending body = NoCr pending × (length pending ≤ MAX_LINE)
+IsKept (stages.Data left) pending body = (0 < left) × (length body + left ≤ MAX_BODY)
 IsKept stages.DataCr pending body = ⊤
 IsKept stages.DataLf pending body = ⊤
-IsKept stages.Trailer pending body = HasNoSection pending × (length pending < 65536)
-IsKept stages.Crowded pending body = NeverHasSection pending × (length pending < 65536)
+IsKept stages.Trailer pending body = HasNoSection pending × (length pending < MAX_OCTETS)
+IsKept stages.Crowded pending body = NeverHasSection pending × (length pending < MAX_OCTETS)
 
 pub record IsSound (stage : Stage) (pending body : List ℕ) : Type 0 where
-  pub small : length body ≤ 16777216
+  pub small : length body ≤ MAX_BODY
   pub kept : IsKept stage pending body

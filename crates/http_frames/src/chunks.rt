@@ -33,6 +33,7 @@ impl Model for Chunks {
 }
 
 impl Chunks {
+    /// A decoder that was fed nothing.
     pub fn new(alloc: Global) -> Chunks
         ensures going { result.phase ≡ Phase.Going }
         ensures fed { IsFed result [] }

@@ -29,6 +29,7 @@ impl Model for Lengths {
 }
 
 impl Lengths {
+    /// A decoder of a body of so many octets.
     pub fn new(alloc: Global, n: u64) -> Lengths
         ensures going { result.phase ≡ Phase.Going }
         ensures size { result.size ≡ n }

@@ -4,12 +4,9 @@ ghost use Rattle.http_frames.specs.Chunks.{NoCr};
 ghost use Rattle.http_frames.specs.Pieces.{IsWholeChunk};
 
 use crate::line::{MAX_LINE, line_size};
-use http_heads::{Fields, MAX_OCTETS, SectionRead, brings_section, front_of, read_section};
+use http_heads::{Fields, MAX_BODY, MAX_OCTETS, SectionRead, brings_section, front_of, read_section};
 use kj_base::{Bytes, NoMemory};
 use std::alloc::Global;
-
-/// The most octets of a body.
-const MAX_BODY: usize = 16_777_216;
 
 /// Which part of a chunked body comes next.
 #[derive(Clone, Copy, Debug, PartialEq, Eq)]
@@ -50,7 +47,7 @@ pub struct Reader {
     pub stage: Stage,
 }
 
-/// Where the first CR stands.
+// Where the first CR stands.
 fn find_cr(bytes: &[u8]) -> Option<usize>
     ensures bound { MatchOption result (NoCr bytes.now) (λ at. at < length bytes.now) }
     ensures first { MatchOption result (NoCr bytes.now) (λ at. NoCr (take at bytes.now) × (bytes.now ≡ take at bytes.now ++ 13 ∷ drop (at + 1) bytes.now)) }
@@ -61,7 +58,7 @@ fn find_cr(bytes: &[u8]) -> Option<usize>
     }
 }
 
-/// The first octets up to an LF, at most so many.
+// The first octets up to an LF, at most so many.
 fn first_line(piece: &[u8], most: usize) -> &[u8]
     ensures front { (n : ℕ) × (result.now ≡ take n piece.now) }
     ensures bound { length result.now ≤ most }
@@ -74,7 +71,7 @@ fn first_line(piece: &[u8], most: usize) -> &[u8]
     }
 }
 
-/// What follows a CRLF at the front.
+// What follows a CRLF at the front.
 fn behind_crlf(bytes: &[u8]) -> Option<&[u8]>
     ensures { IfSome result (λ rest. bytes.now ≡ 13 ∷ 10 ∷ rest.now) }
 {
@@ -84,9 +81,9 @@ fn behind_crlf(bytes: &[u8]) -> Option<&[u8]>
     }
 }
 
-/// The line and the data of a chunk of at most so much data that stands at the front.
+// The line and the data of a chunk of at most so much data that stands at the front.
 fn whole_chunk(piece: &[u8], room: usize) -> Option<(&[u8], &[u8])>
-    requires { room ≤ 16777216 }
+    requires { room ≤ MAX_BODY }
     ensures chunk { IfSome result (λ c. IsWholeChunk c.0.now c.1.now piece.now) }
     ensures fits { IfSome result (λ c. length c.1.now ≤ room) }
 {
@@ -124,8 +121,8 @@ impl Reader {
         }
     }
 
-    /// Takes a chunk that the piece has as a whole, as far as nothing of a line came before. `None`
-    /// says nothing of the piece.
+    // Takes a chunk that the piece has as a whole, as far as nothing of a line came before. `None`
+    // says nothing of the piece.
     fn take_chunk(&mut self, piece: &[u8]) -> Result<Option<usize>, NoMemory>
         requires sound { IsSoundReader self.old }
         requires stage { self.old.stage ≡ Line }
@@ -141,7 +138,7 @@ impl Reader {
         Ok(Some(line.len() + octets.len() + 4))
     }
 
-    /// Takes the front of a piece at the line of a chunk.
+    // Takes the front of a piece at the line of a chunk.
     fn take_at_line(&mut self, piece: &[u8]) -> Result<Intake, NoMemory>
         requires sound { IsSoundReader self.old }
         requires stage { self.old.stage ≡ Line }
@@ -293,7 +290,7 @@ impl Reader {
         Ok(Intake::Took(front.len()))
     }
 
-    /// Takes the front of a piece that is not empty.
+    // Takes the front of a piece that is not empty.
     fn take(&mut self, piece: &[u8]) -> Result<Intake, NoMemory>
         requires sound { IsSoundReader self.old }
         requires some { 0 < length piece.now }

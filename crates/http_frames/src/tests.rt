@@ -25,7 +25,7 @@ pub enum Read {
     Whole(usize),
 }
 
-/// The octets between two places.
+// The octets between two places.
 fn between(text: &[u8], from: usize, to: usize) -> &[u8] {
     if from <= to && to <= text.len() {
         &text[from..to]
@@ -34,7 +34,7 @@ fn between(text: &[u8], from: usize, to: usize) -> &[u8] {
     }
 }
 
-/// The head at the front; no clause, so that the checks below carry no grammar.
+// The head at the front; no clause, so that the checks below carry no grammar.
 fn head_at_front(alloc: Global, text: &[u8]) -> Result<HeadRead, NoMemory> {
     read_head(alloc, text)
 }
@@ -53,7 +53,7 @@ fn feed_lengths(lengths: &mut Lengths, piece: &[u8]) -> Result<Frame, NoMemory>
     lengths.feed(piece)
 }
 
-/// Memory that had a body before.
+// Memory that had a body before.
 fn used(alloc: Global) -> Result<Bytes, NoMemory> {
     Bytes::from_slice(alloc, b"a body before it")
 }
@@ -101,7 +101,7 @@ fn read_length(
     Ok((Read::More, Bytes::new(alloc)))
 }
 
-/// Reads a message that comes in pieces, each of which ends at a cut.
+// Reads a message that comes in pieces, each of which ends at a cut.
 fn read_cut(alloc: Global, text: &[u8], cuts: &[usize]) -> Result<(Read, Bytes), NoMemory> {
     for (index, cut) in cuts.iter().enumerate() {
         match head_at_front(alloc, front_of(text, *cut))? {
@@ -122,7 +122,7 @@ fn read_cut(alloc: Global, text: &[u8], cuts: &[usize]) -> Result<(Read, Bytes),
     Ok((Read::HeadMore, Bytes::new(alloc)))
 }
 
-/// Whether a message comes to what was worked out, in these pieces.
+// Whether a message comes to what was worked out, in these pieces.
 fn is_read_as(
     alloc: Global,
     text: &[u8],
@@ -134,7 +134,7 @@ fn is_read_as(
     Ok(read == want && found.as_slice() == body)
 }
 
-/// Whether each message of a table comes to what was worked out.
+// Whether each message of a table comes to what was worked out.
 fn are_messages(alloc: Global, table: &[Case]) -> Result<bool, NoMemory> {
     let mut right = true;
     for (text, want, body) in table {
@@ -143,7 +143,7 @@ fn are_messages(alloc: Global, table: &[Case]) -> Result<bool, NoMemory> {
     Ok(right)
 }
 
-/// The same of chunked bodies.
+// The same of chunked bodies.
 fn are_bodies(alloc: Global, table: &[Case]) -> Result<bool, NoMemory> {
     let mut right = true;
     for (text, want, body) in table {
@@ -160,7 +160,7 @@ fn messages_are_read_as_worked_out(rt: HostRuntime) -> Result<(), Fail> {
     Ok(())
 }
 
-/// Ten messages that are cut at every place.
+// Ten messages that are cut at every place.
 static CUT: [&[u8]; 10] = [
     b"GET / HTTP/1.1\r\nHost: a\r\n\r\n",
     b"\r\nGET / HTTP/1.0\n\n",
@@ -178,7 +178,7 @@ fn messages() -> &'static [&'static [u8]] {
     &CUT
 }
 
-/// Whether a message comes to the same however it is cut into two and into three.
+// Whether a message comes to the same however it is cut into two and into three.
 fn is_same_in_pieces(
     alloc: Global,
     text: &[u8],
@@ -195,7 +195,7 @@ fn is_same_in_pieces(
     Ok(same)
 }
 
-/// Each place from one on, up to the end.
+// Each place from one on, up to the end.
 fn each_place(alloc: Global, from: usize, end: usize) -> Result<Vec<usize>, NoMemory> {
     let mut places = Vec::new(alloc);
     for place in from..end {
@@ -218,7 +218,7 @@ fn cutting_changes_nothing(rt: HostRuntime) -> Result<(), Fail> {
     Ok(())
 }
 
-/// A front, so many of one text, and an end.
+// A front, so many of one text, and an end.
 fn text_of(
     alloc: Global,
     front: &[u8],
@@ -234,10 +234,10 @@ fn text_of(
     Ok(text)
 }
 
-/// A front, so many of a text, an end, and what they come to.
+// A front, so many of a text, an end, and what they come to.
 type Limit = (&'static [u8], &'static [u8], usize, &'static [u8], Read);
 
-/// Heads: a start line and a Host line of 25 octets together, and what fills them.
+// Heads: a start line and a Host line of 25 octets together, and what fills them.
 static HEAD_LIMITS: [Limit; 7] = [
     // the longest head
     (
@@ -297,7 +297,7 @@ static HEAD_LIMITS: [Limit; 7] = [
     ),
 ];
 
-/// Bodies, whole and octet by octet.
+// Bodies, whole and octet by octet.
 static BODY_LIMITS: [Limit; 12] = [
     // the longest line of a chunk
     (
@@ -339,7 +339,7 @@ fn body_limits() -> &'static [Limit] {
     &BODY_LIMITS
 }
 
-/// Whether each head comes to what was worked out.
+// Whether each head comes to what was worked out.
 fn are_head_limits(alloc: Global, table: &[Limit]) -> Result<bool, NoMemory> {
     let mut right = true;
     for (front, unit, count, end, want) in table {
@@ -350,7 +350,7 @@ fn are_head_limits(alloc: Global, table: &[Limit]) -> Result<bool, NoMemory> {
     Ok(right)
 }
 
-/// Whether each body comes to what was worked out, whole and octet by octet.
+// Whether each body comes to what was worked out, whole and octet by octet.
 fn are_body_limits(alloc: Global, table: &[Limit]) -> Result<bool, NoMemory> {
     let mut right = true;
     for (front, unit, count, end, want) in table {
@@ -370,7 +370,7 @@ fn limits_are_kept(rt: HostRuntime) -> Result<(), Fail> {
     Ok(())
 }
 
-/// What a body in two pieces comes to.
+// What a body in two pieces comes to.
 fn fed_twice(alloc: Global, first: &[u8], second: &[u8]) -> Result<(Frame, Frame), NoMemory> {
     let mut chunks = Chunks::new(alloc);
     match feed_chunks(&mut chunks, first)? {

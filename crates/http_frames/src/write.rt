@@ -5,7 +5,7 @@ ghost use Rattle.http_frames.specs.Written.{chunk_of};
 use kj_base::{Bytes, NoMemory};
 use std::alloc::Global;
 
-/// Appends a chunk with its line; after want of memory a part of it may stand behind the octets.
+// Appends a chunk with its line; after want of memory a part of it may stand behind the octets.
 fn append_chunk(alloc: Global, out: &mut Bytes, piece: &[u8]) -> Result<(), NoMemory>
     ensures ok { OnOk result (out.new ≡ out.old ++ chunk_of piece.now) }
     ensures err { OnErr result (take (length out.old) out.new ≡ out.old) }

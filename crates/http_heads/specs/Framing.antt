@@ -5,6 +5,7 @@ use Rattle.std.specs.Char.{is_ascii_digit}
 use Rattle.std.specs.Str.Parse.{digits_value}
 use Rattle.http_heads.specs.declared.field.Field.{Field}
 use Rattle.http_heads.specs.declared.field.Head.{Head}
+use Rattle.http_heads.specs.declared.front.TheConstants.{MAX_BODY}
 use Rattle.http_heads.specs.declared.Framing.{Framing}
 use Rattle.http_heads.specs.declared.Framing.TheVariants.{Empty, Length, Chunked, Fault}
 use Rattle.http_heads.specs.declared.rules.Sizes.{Sizes}
@@ -28,9 +29,9 @@ coding_of es =
     else (if list_any (λ e. not (is_chunked e)) es then Fault 501
     else Chunked)
 
--- 1*DIGIT, at most 16,777,216
+-- 1*DIGIT, at most as many as a body may have
 abbrev pub is_length : List ℕ → Bool
-is_length e = nat_lt 0 (length e) && (list_all is_ascii_digit e && nat_le (digits_value 10 e) 16777216)
+is_length e = nat_lt 0 (length e) && (list_all is_ascii_digit e && nat_le (digits_value 10 e) MAX_BODY)
 
 -- the element is this number
 abbrev pub is_length_of : ℕ → List ℕ → Bool

@@ -4,6 +4,7 @@ use Rattle.httparse.specs.Grammar.{RequestHead, IsRequestHead, print_request, Re
 use Rattle.httparse.specs.Spans.{RequestOverflows, RequestExceeds}
 use Rattle.http_heads.specs.Section.{field_of}
 use Rattle.http_heads.specs.declared.field.Head.{Head}
+use Rattle.http_heads.specs.declared.front.TheConstants.{MAX_FIELDS, MAX_OCTETS}
 use Rattle.http_heads.specs.declared.HeadRead.{HeadRead}
 use Rattle.http_heads.specs.declared.HeadRead.TheVariants.{Whole, More, Crowded, Bad}
 use Rattle.http_heads.specs.declared.HeadFill.{HeadFill}
@@ -18,8 +19,8 @@ head_of tree = record { method = tree.method; target = tree.target; minor = tree
 pub record IsHeadBy (tree : RequestHead) (bytes : List ℕ) (head : Head) : Type 0 where
   pub valid : IsRequestHead tree
   pub text : bytes ≡ print_request tree
-  pub few : length tree.fields ≤ 100
-  pub short : length bytes ≤ 65536
+  pub few : length tree.fields ≤ MAX_FIELDS
+  pub short : length bytes ≤ MAX_OCTETS
   pub parts : head ≡ head_of tree
 
 -- these octets, all of them, are the head
@@ -52,8 +53,8 @@ Reads bytes Bad = NeverHasHead bytes
 -- where an answer is neither a head nor a refusal
 abbrev pub GoesOn : List ℕ → HeadRead → Type 0
 GoesOn bytes (Whole head len) = ⊤
-GoesOn bytes More = (length bytes < 65536) × StartsWell bytes
-GoesOn bytes Crowded = (length bytes < 65536) × StartsWell bytes
+GoesOn bytes More = (length bytes < MAX_OCTETS) × StartsWell bytes
+GoesOn bytes Crowded = (length bytes < MAX_OCTETS) × StartsWell bytes
 GoesOn bytes Bad = ⊤
 
 -- the same answer, with the head that was read into
@@ -66,7 +67,7 @@ read_of head fills.Bad = Bad
 -- what parsing says of octets of any number
 abbrev pub Parses : List ℕ → Head → HeadFill → Type 0
 Parses bytes head (fills.Whole len) =
-    (tree : RequestHead) × (rest : List ℕ) × ReadsRequest bytes tree rest × (length tree.fields ≤ 100) × (head ≡ head_of tree) × (len ≡ length (print_request tree))
+    (tree : RequestHead) × (rest : List ℕ) × ReadsRequest bytes tree rest × (length tree.fields ≤ MAX_FIELDS) × (head ≡ head_of tree) × (len ≡ length (print_request tree))
 Parses bytes head fills.More = HasNoRequest bytes × MayBecomeRequest bytes
-Parses bytes head fills.Crowded = RequestOverflows 100 bytes × RequestExceeds 100 bytes
+Parses bytes head fills.Crowded = RequestOverflows MAX_FIELDS bytes × RequestExceeds MAX_FIELDS bytes
 Parses bytes head fills.Bad = NeverHasRequest bytes

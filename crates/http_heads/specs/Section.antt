@@ -3,6 +3,7 @@ use Rattle.std.specs.Prelude.{◌≡◌, ℕ, ◌<◌, ◌≤◌, List, ◌++◌
 use Rattle.httparse.specs.Grammar.{Field as Line, LineEnd, field_value, print_section, ReadsSection, NeverHasSection as NeverParses}
 use Rattle.httparse.specs.Spans.{SectionOverflows}
 use Rattle.http_heads.specs.declared.field.Field.{Field}
+use Rattle.http_heads.specs.declared.front.TheConstants.{MAX_FIELDS, MAX_OCTETS}
 use Rattle.http_heads.specs.declared.SectionRead.{SectionRead}
 use Rattle.http_heads.specs.declared.SectionRead.TheVariants.{Whole, More, Crowded, Bad}
 
@@ -19,9 +20,9 @@ pub record StartsWithSection (bytes : List ℕ) (fields : List Field) (len : ℕ
   pub lines : List Line
   pub last : LineEnd
   pub reads : ReadsSection bytes lines last rest
-  pub few : length lines ≤ 100
+  pub few : length lines ≤ MAX_FIELDS
   pub len_is : len ≡ length (print_section lines last)
-  pub short : len ≤ 65536
+  pub short : len ≤ MAX_OCTETS
   pub parts : fields ≡ map field_of lines
 
 -- no prefix is a section
@@ -42,7 +43,7 @@ ReadsAs bytes Bad = NeverHasSection bytes
 -- the same of sections of any length
 abbrev pub ParsesAs : List ℕ → SectionRead → Type 0
 ParsesAs bytes (Whole fields len) =
-    (lines : List Line) × (last : LineEnd) × (rest : List ℕ) × ReadsSection bytes lines last rest × (length lines ≤ 100) × (len ≡ length (print_section lines last)) × (fields ≡ map field_of lines)
-ParsesAs bytes More = (lines : List Line) (last : LineEnd) (rest : List ℕ) → ReadsSection bytes lines last rest → 100 < length lines
-ParsesAs bytes Crowded = SectionOverflows 100 bytes
+    (lines : List Line) × (last : LineEnd) × (rest : List ℕ) × ReadsSection bytes lines last rest × (length lines ≤ MAX_FIELDS) × (len ≡ length (print_section lines last)) × (fields ≡ map field_of lines)
+ParsesAs bytes More = (lines : List Line) (last : LineEnd) (rest : List ℕ) → ReadsSection bytes lines last rest → MAX_FIELDS < length lines
+ParsesAs bytes Crowded = SectionOverflows MAX_FIELDS bytes
 ParsesAs bytes Bad = NeverParses bytes

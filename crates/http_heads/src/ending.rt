@@ -7,7 +7,7 @@ ghost use Rattle.http_heads.specs.declared.field.Field.{Field};
 ghost use Rattle.http_heads.specs.declared.field.Head.{Head};
 ghost use Rattle.std.specs.Prelude.{List};
 
-/// Where the line end begins whose LF stands at k.
+// Where the line end begins whose LF stands at k.
 fn line_end_start(bytes: &[u8], k: usize) -> usize
     requires { k < length bytes.now }
     ensures start { result ≡ line_end_start bytes.now k }

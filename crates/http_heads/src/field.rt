@@ -13,6 +13,7 @@ pub struct Field {
 }
 
 impl Field {
+    /// A field without name and value.
     pub fn new(alloc: Global) -> Field
         ensures name { result.name ≡ [] }
         ensures value { result.value ≡ [] }
@@ -32,7 +33,7 @@ impl Field {
     }
 }
 
-/// Other octets, in the same memory where there is room.
+// Other octets, in the same memory where there is room.
 pub(crate) fn refill(bytes: &mut Bytes, octets: &[u8]) -> Result<(), NoMemory>
     ensures { OnOk result (bytes.new ≡ octets.now) }
 {
@@ -60,6 +61,7 @@ impl Model for Fields {
 }
 
 impl Fields {
+    /// No fields.
     pub fn new(alloc: Global) -> Fields
         ensures { result ≡ [] }
     {
@@ -85,12 +87,14 @@ impl Fields {
         self.items
     }
 
+    /// The fields in order.
     pub fn as_slice(&self) -> &[Field]
         ensures { result.now ≡ self.now }
     {
         &self.items[..self.count]
     }
 
+    /// Adds a field behind the others.
     pub fn push(&mut self, field: Field) -> Result<(), NoMemory>
         ensures ok { OnOk result (self.new ≡ self.old ++ field ∷ []) }
         ensures err { OnErr result (self.new ≡ self.old) }
@@ -108,7 +112,7 @@ impl Fields {
         self.count = 0;
     }
 
-    /// Copies a field behind the others, into memory that is kept where there is some.
+    // Copies a field behind the others, into memory that is kept where there is some.
     pub(crate) fn append(
         &mut self,
         alloc: Global,

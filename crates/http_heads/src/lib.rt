@@ -14,7 +14,7 @@ pub mod text;
 
 pub use ending::{brings_head, brings_section, first_stop, head_has_stop, stop_stays};
 pub use field::{Field, Fields, Head};
-pub use front::{MAX_OCTETS, front_of};
+pub use front::{MAX_BODY, MAX_FIELDS, MAX_OCTETS, front_of};
 pub use list::values_join;
 pub use read::{fill_head, head_stays, one_head, read_head};
 pub use section::{one_section, read_section, section_stays};

@@ -15,13 +15,14 @@ pub fn is_same(a: &[u8], b: &[u8]) -> bool
     a.eq_ignore_ascii_case(b)
 }
 
+/// Whether a field has this name, without regard to ASCII case (RFC 9110, 5.1).
 pub fn is_named(name: &[u8], field: &Field) -> bool
     ensures { result ≡ is_named name.now field.now }
 {
     is_same(field.name.as_slice(), name)
 }
 
-/// The first piece of a value, and what is left after its comma.
+// The first piece of a value, and what is left after its comma.
 fn cut(value: &[u8]) -> (&[u8], Option<&[u8]>)
     ensures elements { elements value.now ≡ (if is_blank result.0.now then elements_of_rest result.1 else result.0.now ∷ elements_of_rest result.1) }
     ensures shorter { left_of result.1 ≤ length value.now }
@@ -32,7 +33,7 @@ fn cut(value: &[u8]) -> (&[u8], Option<&[u8]>)
     }
 }
 
-/// The next element of what is left of a value, and what is left then.
+// The next element of what is left of a value, and what is left then.
 fn next_element(rest: Option<&[u8]>) -> Option<(&[u8], Option<&[u8]>)>
     ensures { MatchOption result (elements_of_rest rest.entry ≡ []) (λ r. elements_of_rest rest.entry ≡ r.0.now ∷ elements_of_rest r.1) }
 {
@@ -56,6 +57,7 @@ pub struct Elements<'a> {
 }
 
 impl<'a> Elements<'a> {
+    /// The elements of all fields of this name.
     pub fn new(name: &'a [u8], fields: &'a [Field]) -> Elements<'a>
         ensures { elements_left result ≡ list_of name.now fields.now }
     {

@@ -28,7 +28,7 @@ const NO_MARKS: Marks = Marks {
     optioned: false,
 };
 
-/// With those that one more field has.
+// With those that one more field has.
 fn with_marks(marks: Marks, host: bool, coded: bool, sized: bool, optioned: bool) -> Marks
     ensures { result ≡ with_marks marks host coded sized optioned }
 {
@@ -41,7 +41,7 @@ fn with_marks(marks: Marks, host: bool, coded: bool, sized: bool, optioned: bool
     }
 }
 
-/// With those of one more field, whose name is compared only with one of its length.
+// With those of one more field, whose name is compared only with one of its length.
 fn mark(marks: Marks, field: &Field) -> Marks
     ensures { result ≡ mark marks field.now }
 {

@@ -13,10 +13,10 @@ use httparse::{Error, Status};
 use kj_base::NoMemory;
 use std::alloc::Global;
 
-/// Most heads have no more fields; one that has is parsed again with room for all.
+// Most heads have no more fields; one that has is parsed again with room for all.
 const FEW_FIELDS: usize = 32;
 
-/// Copies the parts of a head out of the octets.
+// Copies the parts of a head out of the octets.
 fn fill_parts(
     alloc: Global,
     head: &mut Head,
@@ -34,7 +34,7 @@ fn fill_parts(
     Ok(())
 }
 
-/// Reads a head of any length, with room for all fields that it may have.
+// Reads a head of any length, with room for all fields that it may have.
 fn parse_many(alloc: Global, head: &mut Head, bytes: &[u8]) -> Result<HeadFill, NoMemory>
     ensures { IfOk result (Parses bytes.now head.new) }
 {
@@ -50,7 +50,7 @@ fn parse_many(alloc: Global, head: &mut Head, bytes: &[u8]) -> Result<HeadFill, 
     }
 }
 
-/// Reads a head of any length.
+// Reads a head of any length.
 fn parse(alloc: Global, head: &mut Head, bytes: &[u8]) -> Result<HeadFill, NoMemory>
     ensures { IfOk result (Parses bytes.now head.new) }
 {
@@ -73,7 +73,7 @@ pub fn read_head(alloc: Global, bytes: &[u8]) -> Result<HeadRead, NoMemory>
     ensures reads { IfOk result (Reads bytes.now) }
 
     // More comes only where fewer octets are there than a head may have.
-    ensures more { result ≡ Ok HeadRead.More → length bytes.now < 65536 }
+    ensures more { result ≡ Ok HeadRead.More → length bytes.now < MAX_OCTETS }
 
     // The same of Crowded. And neither comes where the first line can't be one.
     ensures goes_on { IfOk result (GoesOn bytes.now) }

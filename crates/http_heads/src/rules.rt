@@ -1,4 +1,4 @@
-ghost use Rattle.std.specs.Prelude.{◌≡◌, fold, min, codes, count_by, IsTrue, Some, None, if◌then◌else◌};
+ghost use Rattle.std.specs.Prelude.{◌≡◌, ◌+◌, fold, min, codes, count_by, IsTrue, Some, None, if◌then◌else◌};
 ghost use Rattle.std.specs.List.{list_all, list_any};
 ghost use Rattle.std.specs.Char.{is_ascii_digit};
 ghost use Rattle.std.specs.Str.Parse.{digits_value};
@@ -7,6 +7,7 @@ ghost use Rattle.http_heads.specs.Framing.{is_chunked, coding_of, is_length, len
 ghost use Rattle.http_heads.specs.Marks.{IsMarked, framing_by_marks};
 
 use crate::field::{Field, Head};
+use crate::front::MAX_BODY;
 use crate::list::{Elements, is_named, is_same};
 use crate::marks::{Marks, marks_of};
 use crate::{Framing, MessageRules};
@@ -25,7 +26,7 @@ pub fn count_fields(name: &[u8], fields: &[Field]) -> usize
     fields.iter().filter(|field| is_named(name, field)).count()
 }
 
-/// Whether an option stands in the Connection list.
+// Whether an option stands in the Connection list.
 fn has_option(option: &[u8], fields: &[Field]) -> bool
     ensures { result ≡ list_any (λ e. is_same e option.now) (list_of (codes "connection") fields.now) }
 {
@@ -88,7 +89,8 @@ pub fn transfer_coding(fields: &[Field]) -> Framing
     }
 }
 
-const OVER: u64 = 16_777_217;
+// One more than a body may have.
+const OVER: u64 = MAX_BODY as u64 + 1;
 
 fn are_digits(element: &[u8]) -> bool
     ensures { result ≡ list_all is_ascii_digit element.now }
@@ -96,10 +98,10 @@ fn are_digits(element: &[u8]) -> bool
     element.iter().all(|b| b.is_ascii_digit())
 }
 
-/// The number that the digits write, or one too large where it is larger.
+// The number that the digits write, or one too large where it is larger.
 fn value_of(digits: &[u8]) -> u64
     requires { IsTrue (list_all is_ascii_digit digits.now) }
-    ensures { result ≡ min (digits_value 10 digits.now) 16777217 }
+    ensures { result ≡ min (digits_value 10 digits.now) (MAX_BODY + 1) }
 {
     let mut n: u64 = 0;
     for b in digits {
@@ -168,7 +170,7 @@ pub fn content_length(fields: &[Field]) -> Framing
     framing_by(sizes_of(fields))
 }
 
-/// The framing, where it is known which fields there are.
+// The framing, where it is known which fields there are.
 fn framing_by_marks(head: &Head, marks: Marks) -> Framing
     ensures { result ≡ framing_by_marks head.now marks }
 {
@@ -216,7 +218,7 @@ pub fn rules_of(head: &Head) -> MessageRules
     }
 }
 
-/// Whether the connection goes on, where it is known which fields there are.
+// Whether the connection goes on, where it is known which fields there are.
 fn persists_by_marks(minor: u8, fields: &[Field], marks: Marks) -> bool
     requires { IsMarked fields.now marks }
     ensures { result ≡ persists_by minor fields.now }

@@ -12,7 +12,7 @@ use httparse::{Error, Status};
 use kj_base::NoMemory;
 use std::alloc::Global;
 
-/// Copies the fields that the first spans cover.
+// Copies the fields that the first spans cover.
 pub(crate) fn fill_fields(
     alloc: Global,
     fields: &mut Fields,
@@ -31,7 +31,7 @@ pub(crate) fn fill_fields(
     Ok(())
 }
 
-/// Reads a section of any length.
+// Reads a section of any length.
 fn parse(alloc: Global, bytes: &[u8]) -> Result<SectionRead, NoMemory>
     ensures { IfOk result (ParsesAs bytes.now) }
 {
@@ -55,8 +55,8 @@ pub fn read_section(alloc: Global, bytes: &[u8]) -> Result<SectionRead, NoMemory
     ensures reads { IfOk result (ReadsAs bytes.now) }
 
     // These come only where fewer octets are there than a section may have.
-    ensures more { result ≡ Ok SectionRead.More → length bytes.now < 65536 }
-    ensures crowded { result ≡ Ok SectionRead.Crowded → length bytes.now < 65536 }
+    ensures more { result ≡ Ok SectionRead.More → length bytes.now < MAX_OCTETS }
+    ensures crowded { result ≡ Ok SectionRead.Crowded → length bytes.now < MAX_OCTETS }
 {
     let front = front_of(bytes, MAX_OCTETS);
     match parse(alloc, front)? {

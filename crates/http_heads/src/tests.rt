@@ -8,7 +8,7 @@ use kj_base::{Bytes, NoMemory};
 use std::alloc::Global;
 use std::test::Fail;
 
-/// Why, the head, how its body is delimited, and whether the connection goes on after it.
+// Why, the head, how its body is delimited, and whether the connection goes on after it.
 static HEADS: [(&str, &[u8], Framing, bool); 22] = [
     (
         "equal numbers",
@@ -214,7 +214,7 @@ fn parts_of_heads_and_sections(rt: HostRuntime) -> Result<(), Fail> {
     Ok(())
 }
 
-/// Octets, from where on they are looked at, and whether a head and a section may end there.
+// Octets, from where on they are looked at, and whether a head and a section may end there.
 static ENDS: [(&[u8], usize, bool, bool); 9] = [
     (b"a\r\n\r\n", 0, true, true),
     (b"a\n\n", 0, true, true),
@@ -235,7 +235,7 @@ fn empty_lines_are_found(rt: HostRuntime) {
     }
 }
 
-/// Octets, where their first line stops, and whether they may still become a head.
+// Octets, where their first line stops, and whether they may still become a head.
 static FIRST_LINES: [(&[u8], Option<usize>, bool); 13] = [
     (b"GET / HTTP/1.1\r\n", Some(15), true),
     (b"GET / HTTP/1.0\nA: b", Some(14), true),
@@ -264,7 +264,7 @@ fn first_lines_are_looked_at(rt: HostRuntime) -> Result<(), Fail> {
     Ok(())
 }
 
-/// A head with so many fields.
+// A head with so many fields.
 fn head_of(alloc: Global, count: usize) -> Result<Bytes, NoMemory> {
     let mut head = Bytes::from_slice(alloc, b"GET / HTTP/1.0\r\n")?;
     for _ in 0..count {

@@ -15,26 +15,26 @@ use std::thread::{Threads, join};
 use std::time::{Duration, Instant};
 use xthread::{Executor, ExecutorPass, Ticket};
 
-/// What each submitting thread does with a request.
+// What each submitting thread does with a request.
 #[derive(Clone, Copy, Debug, PartialEq, Eq)]
 pub(crate) enum Way {
-    /// It waits for the outcome, while a target serves.
+    // It waits for the outcome, while a target serves.
     RoundTrip,
-    /// One thread has as many requests outstanding as there would be threads, and waits for all of them, round by round.
+    // One thread has as many requests outstanding as there would be threads, and waits for all of them, round by round.
     Batch,
-    /// It withdraws the request at once, and no target serves.
+    // It withdraws the request at once, and no target serves.
     Submission,
 }
 
-/// What is measured.
+// What is measured.
 #[derive(Clone, Copy, Debug, PartialEq, Eq)]
 pub(crate) struct Race {
     pub way: Way,
-    /// How many threads submit, or how many requests are outstanding at once.
+    // How many threads submit, or how many requests are outstanding at once.
     pub threads: u32,
 }
 
-/// Each race with its word.
+// Each race with its word.
 pub(crate) static RACES: [(&str, Race); 5] = [
     (
         "round-trips-1",
@@ -73,7 +73,7 @@ pub(crate) static RACES: [(&str, Race); 5] = [
     ),
 ];
 
-/// The race of a word.
+// The race of a word.
 pub(crate) fn race_named(word: &str) -> Option<Race> {
     for (name, race) in RACES.iter() {
         if *name == word {
@@ -83,10 +83,10 @@ pub(crate) fn race_named(word: &str) -> Option<Race> {
     None
 }
 
-/// The most requests that one thread may submit.
+// The most requests that one thread may submit.
 pub(crate) const MOST: u32 = 50_000;
 
-/// The most rounds of a batch.
+// The most rounds of a batch.
 pub(crate) const MOST_ROUNDS: u32 = 10_000;
 
 type BenchExecutor = Executor<Item, u64>;
@@ -512,8 +512,8 @@ fn run_four<W: Wait + Threads + Sync + Clock>(
     Ok(time)
 }
 
-/// Each submitting thread of the race makes so many requests, which all end: the time from the first submission on, with the
-/// start of the threads.
+// Each submitting thread of the race makes so many requests, which all end: the time from the first submission on, with the
+// start of the threads.
 pub(crate) fn run_race<W: Wait + Threads + Sync + Clock>(
     rt: &W,
     alloc: Global,

@@ -9,22 +9,22 @@ use httparse::spans::{EMPTY_HEADER_SPAN, HeaderSpan, RequestSpans, Span, parse_r
 use kj_base::{Bytes, NoMemory};
 use std::alloc::Global;
 
-/// What is done with a head.
+// What is done with a head.
 #[derive(Clone, Copy, Debug, PartialEq, Eq)]
 pub(crate) enum Way {
-    /// Its octets are copied.
+    // Its octets are copied.
     Octets,
-    /// The kit's `httparse` finds its parts.
+    // The kit's `httparse` finds its parts.
     Parts,
-    /// And they are copied.
+    // And they are copied.
     Copies,
-    /// It is read, with its framing and its persistence.
+    // It is read, with its framing and its persistence.
     Fresh,
-    /// The same, into the memory of the head before it.
+    // The same, into the memory of the head before it.
     Again,
 }
 
-/// As many as `read_head` has at first.
+// As many as `read_head` has at first.
 const SPANS: usize = 32;
 
 const SHORT_HEAD: &[u8] = b"GET /a/b HTTP/1.1\r\nHost: example.test\r\nX: 12345\r\n\r\n";
@@ -38,7 +38,7 @@ fn long_head(alloc: Global) -> Result<Bytes, NoMemory> {
     Ok(head)
 }
 
-/// A head of 51 octets and two fields, or of 820 octets and twenty.
+// A head of 51 octets and two fields, or of 820 octets and twenty.
 pub(crate) fn head_text(alloc: Global, is_long: bool) -> Result<Bytes, NoMemory> {
     if is_long {
         long_head(alloc)
@@ -57,7 +57,7 @@ fn filled(alloc: Global, head: &mut Head, text: &[u8]) -> Result<HeadFill, NoMem
     fill_head(alloc, head, text)
 }
 
-/// A head without a body, behind which the connection goes on.
+// A head without a body, behind which the connection goes on.
 fn is_plain(head: &Head) -> bool {
     let rules = rules_of(head);
     rules.framing == Framing::Empty && rules.persists
@@ -86,7 +86,7 @@ fn parse(text: &[u8]) -> bool {
     matches!(parse_request(text, &mut spans), Ok(Status::Complete(_)))
 }
 
-/// The octets that a span covers.
+// The octets that a span covers.
 fn part(text: &[u8], span: Span) -> &[u8] {
     match text.get(span.start..span.end) {
         Some(octets) => octets,
@@ -94,7 +94,7 @@ fn part(text: &[u8], span: Span) -> &[u8] {
     }
 }
 
-/// Each part in memory of its own.
+// Each part in memory of its own.
 fn copies(
     alloc: Global,
     text: &[u8],
@@ -139,7 +139,7 @@ fn is_read(alloc: Global, way: Way, head: &mut Head, text: &[u8]) -> Result<bool
     }
 }
 
-/// One head that is the whole text, or none.
+// One head that is the whole text, or none.
 pub(crate) fn read_one(
     alloc: Global,
     way: Way,

@@ -9,20 +9,20 @@ use http_heads::{Head, front_of};
 use kj_base::{Bytes, NoMemory};
 use std::alloc::Global;
 
-/// What is read.
+// What is read.
 #[derive(Clone, Copy, Debug, PartialEq, Eq)]
 pub(crate) enum Work {
-    /// A head.
+    // A head.
     Head { is_long: bool, way: Way },
-    /// A body in chunks of so many octets, in pieces of so many.
+    // A body in chunks of so many octets, in pieces of so many.
     Body { chunk: usize, piece: usize },
 }
 
-/// What was done in a round.
+// What was done in a round.
 #[derive(Clone, Copy, Debug, PartialEq, Eq)]
 pub(crate) struct Done {
     pub octets: u64,
-    /// Heads, or bodies.
+    // Heads, or bodies.
     pub items: u64,
 }
 
@@ -31,7 +31,7 @@ pub(crate) const NOTHING: Done = Done {
     items: 0,
 };
 
-/// One item that is the whole text.
+// One item that is the whole text.
 pub(crate) fn whole(text: &[u8]) -> Done
     ensures { result ≡ record { octets = length text.now; items = 1 } }
 {
@@ -41,7 +41,7 @@ pub(crate) fn whole(text: &[u8]) -> Done
     }
 }
 
-/// Each work with its word.
+// Each work with its word.
 pub(crate) static WORKS: [(&str, Work); 16] = [
     (
         "short-heads-octets",
@@ -151,13 +151,13 @@ pub(crate) static WORKS: [(&str, Work); 16] = [
     ),
 ];
 
-/// The body of a round that prints figures: 16 MiB.
+// The body of a round that prints figures: 16 MiB.
 pub(crate) const WHOLE_BODY: usize = 16_777_216;
 
-/// The body of a round of everything.
+// The body of a round of everything.
 pub(crate) const SMALL_BODY: usize = 131_072;
 
-/// The work of a word.
+// The work of a word.
 pub(crate) fn named(word: &str) -> Option<Work> {
     for (name, work) in WORKS.iter() {
         if *name == word {
@@ -167,7 +167,7 @@ pub(crate) fn named(word: &str) -> Option<Work> {
     None
 }
 
-/// A body in chunks, with its last chunk and an empty trailer.
+// A body in chunks, with its last chunk and an empty trailer.
 fn body_text(alloc: Global, chunk: usize, size: usize) -> Result<Bytes, NoMemory> {
     let mut text = Bytes::new(alloc);
     let mut data = Bytes::new(alloc);
@@ -187,7 +187,7 @@ fn body_text(alloc: Global, chunk: usize, size: usize) -> Result<Bytes, NoMemory
     Ok(text)
 }
 
-/// Feeds one piece; the clause says no more than when the next may come.
+// Feeds one piece; the clause says no more than when the next may come.
 fn feed(chunks: &mut Chunks, piece: &[u8]) -> Result<Frame, NoMemory>
     requires { chunks.old.phase ≡ Going }
     ensures { IfOk result (λ frame. chunks.new.phase ≡ phase_after frame) }
@@ -211,7 +211,7 @@ fn read_body(alloc: Global, text: &[u8], piece: usize) -> Result<Done, NoMemory>
     Ok(NOTHING)
 }
 
-/// What a work reads.
+// What a work reads.
 pub(crate) fn text_of(alloc: Global, work: Work, size: usize) -> Result<Bytes, NoMemory> {
     match work {
         Work::Head { is_long, .. } => head_text(alloc, is_long),
@@ -219,8 +219,8 @@ pub(crate) fn text_of(alloc: Global, work: Work, size: usize) -> Result<Bytes, N
     }
 }
 
-/// One round of a work over what it reads: one item that is the whole text, or none. A head may be
-/// read into the one that is given.
+// One round of a work over what it reads: one item that is the whole text, or none. A head may be
+// read into the one that is given.
 pub(crate) fn round(
     alloc: Global,
     head: &mut Head,

@@ -17,7 +17,7 @@ use std::sync::Wait;
 use std::thread::{Threads, available_parallelism};
 use std::time::{Duration, Instant};
 
-/// One round of everything.
+// One round of everything.
 fn all<R: AllocGlobal + Clock + Wait + Threads + Sync>(rt: &R) -> Result<()> {
     let mut head = Head::new(rt.alloc());
     for (name, work) in WORKS.iter() {
@@ -31,19 +31,19 @@ fn all<R: AllocGlobal + Clock + Wait + Threads + Sync>(rt: &R) -> Result<()> {
     Ok(())
 }
 
-/// So many for each second.
+// So many for each second.
 fn rate(count: u64, micros: u64) -> u64 {
     count.saturating_mul(1_000_000) / micros.max(1)
 }
 
-/// A time in microseconds.
+// A time in microseconds.
 fn micros_of(time: Duration) -> u64 {
     time.as_secs()
         .saturating_mul(1_000_000)
         .saturating_add(u64::from(time.subsec_micros()))
 }
 
-/// So many rounds of one work, with its figures.
+// So many rounds of one work, with its figures.
 fn measure(
     rt: &(impl AllocGlobal + Clock + Print),
     word: &str,
@@ -69,7 +69,7 @@ fn measure(
     Ok(())
 }
 
-/// So many requests of each thread of a race, with its figures.
+// So many requests of each thread of a race, with its figures.
 fn measure_race<R: AllocGlobal + Clock + Print + Wait + Threads + Sync>(
     rt: &R,
     word: &str,

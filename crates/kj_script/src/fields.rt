@@ -17,6 +17,7 @@ pub fn read_number(word: &[u8]) -> Option<u32>
     Some(n as u32)
 }
 
+/// The name that a word writes in decimal digits, below 2^32.
 pub fn read_name(word: &[u8]) -> Option<Name>
     ensures found { IfSome result (λ name. word.now ≡ decimal name.0) }
     ensures none { IfNone result ((n : ℕ) → n < 2 ^ 32 → word.now ≡ decimal n → ⊥) }

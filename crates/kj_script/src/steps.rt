@@ -36,6 +36,7 @@ impl ScriptSteps {
     ghost use Rattle.kj_script.specs.Items.{item_of};
     ghost use Rattle.kj_script.specs.Told.{told_by, DrainsInto};
 
+    /// Steps that were told nothing yet.
     pub fn new(alloc: Global) -> ScriptSteps
         ensures { told_by result ≡ Some [] }
     {

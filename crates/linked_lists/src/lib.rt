@@ -12,7 +12,7 @@ use std::marker::Model;
 #[cfg(test)]
 mod tests;
 
-/// The neighbours of a number in its ring.
+// The neighbours of a number in its ring.
 #[derive(Clone, Copy)]
 struct Link {
     next: u32,

@@ -14,7 +14,7 @@ use crate::nodes::{Node, has_event};
 use crate::walk::{go_down, put_last};
 use kj_base::{NodeId, Steps};
 
-/// A tree goes, dependencies first, and its nodes are listed.
+// A tree goes, dependencies first, and its nodes are listed.
 fn close_tree<S: Steps>(engine: &mut Engine, root: u64, steps: &mut S, freed: &mut Vec<NodeId>)
     requires kept { IsKept engine.old }
     requires room { engine.old.limits.slots ≤ vec_capacity freed.old }
@@ -55,7 +55,7 @@ fn list_task(node: Node, roots: &mut Vec<u64>)
     }
 }
 
-/// The Tasks, newest first.
+// The Tasks, newest first.
 fn list_tasks(nodes: &Vec<Node>, roots: &mut Vec<u64>)
     requires { vec_len roots.old + vec_len nodes.now ≤ vec_capacity roots.old }
     ensures roots { roots.new.items ≡ roots.old.items ++ reverse (tasks_of nodes.now.items) }
@@ -67,7 +67,7 @@ fn list_tasks(nodes: &Vec<Node>, roots: &mut Vec<u64>)
     }
 }
 
-/// Trees go, one after another.
+// Trees go, one after another.
 fn close_roots<S: Steps>(engine: &mut Engine, roots: &[u64], steps: &mut S, freed: &mut Vec<NodeId>)
     requires kept { IsKept engine.old }
     requires empty { freed.old.items ≡ [] }
@@ -80,7 +80,7 @@ fn close_roots<S: Steps>(engine: &mut Engine, roots: &[u64], steps: &mut S, free
     }
 }
 
-/// What each name holds goes, by rising name, and then the loop's own tasks, newest first.
+// What each name holds goes, by rising name, and then the loop's own tasks, newest first.
 pub(crate) fn close<S: Steps>(
     engine: &mut Engine,
     roots: &mut Vec<u64>,

@@ -14,17 +14,17 @@ use crate::nodes::{Form, add_node, is_ready, listener_of};
 use crate::order::arm_next;
 use kj_base::{Command, Name, Refused, StepId};
 
-/// Numbers of nodes end at 2^63.
+// Numbers of nodes end at 2^63.
 const LAST_NUMBER: u64 = 0x8000_0000_0000_0000;
 
-/// Whether no further node fits, or no number is left.
+// Whether no further node fits, or no number is left.
 fn is_full(engine: &Engine) -> bool
     ensures { result ≡ no_node_fits engine.now }
 {
     engine.nodes.len() >= engine.limits.slots as usize || engine.next > LAST_NUMBER
 }
 
-/// A node with the next number.
+// A node with the next number.
 fn build(engine: &mut Engine, form: Form)
     requires kept { IsKept engine.old }
     requires fits { no_node_fits engine.old ≡ false }
@@ -39,7 +39,7 @@ fn build(engine: &mut Engine, form: Form)
     engine.next = number + 1;
 }
 
-/// The tree of root n got a listener: where it is ready, it arms it.
+// The tree of root n got a listener: where it is ready, it arms it.
 fn listen(engine: &mut Engine, n: u64)
     requires kept { IsKept engine.old }
     requires room { length engine.old.order.events.items < engine.old.limits.slots }
@@ -161,7 +161,7 @@ pub(crate) fn apply_command(engine: &mut Engine, command: &Command) -> Result<()
     }
 }
 
-/// Commands in order, until one is refused; whether none was.
+// Commands in order, until one is refused; whether none was.
 pub(crate) fn apply_all(engine: &mut Engine, commands: &[Command]) -> bool
     requires kept { IsKept engine.old }
     requires running { engine.old.stopped ≡ false }

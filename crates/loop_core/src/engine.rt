@@ -15,28 +15,28 @@ use crate::order::{Order, disarm};
 use crate::walk::{Frame, go_down};
 use kj_base::{Limits, NodeId, Steps};
 
-/// All that a loop holds, with room for all that it can ever need.
+// All that a loop holds, with room for all that it can ever need.
 #[derive(Drop)]
 pub(crate) struct Engine {
     pub order: Order,
-    /// By rising number, so that a node is found by bisection.
+    // By rising number, so that a node is found by bisection.
     pub nodes: Vec<Node>,
-    /// By rising name.
+    // By rising name.
     pub names: Vec<Named>,
-    /// The number of the next node.
+    // The number of the next node.
     pub next: u64,
     pub limits: Limits,
-    /// The node whose event fires.
+    // The node whose event fires.
     pub firing: Option<u64>,
     pub stopped: bool,
-    /// Room for the nodes of a tree that goes.
+    // Room for the nodes of a tree that goes.
     pub path: Vec<u64>,
-    /// Room for the continuations above the tree that is evaluated.
+    // Room for the continuations above the tree that is evaluated.
     pub frames: Vec<Frame>,
 }
 
 impl Engine {
-    /// No tree is deeper.
+    // No tree is deeper.
     pub(crate) fn depth(&self) -> usize
         ensures { result ≡ self.now.limits.slots + 1 }
     {
@@ -44,7 +44,7 @@ impl Engine {
     }
 }
 
-/// A node goes: its event is disarmed, and the free is told.
+// A node goes: its event is disarmed, and the free is told.
 pub(crate) fn drop_node<S: Steps>(engine: &mut Engine, n: u64, steps: &mut S)
     requires { IsKept engine.old }
     ensures nodes { engine.new.nodes.items ≡ without_node n engine.old.nodes.items }
@@ -60,7 +60,7 @@ pub(crate) fn drop_node<S: Steps>(engine: &mut Engine, n: u64, steps: &mut S)
     steps.freed(NodeId(n));
 }
 
-/// A tree goes, dependencies first.
+// A tree goes, dependencies first.
 pub(crate) fn free_tree<S: Steps>(engine: &mut Engine, root: u64, steps: &mut S)
     requires { IsKept engine.old }
     ensures falls { Falls (reverse (tree_path (engine.old.limits.slots + 1) root engine.old.nodes.items)) engine.old engine.new (S.told steps.old) (S.told steps.new) }

@@ -16,10 +16,10 @@ use crate::nodes::{Form, put_form};
 use crate::walk::{Frame, open_frames};
 use kj_base::{Action, Ending, Exception, Kind, NoMemory, NodeId, Outcome, StepId, Steps, Words};
 
-/// The code of the exception where a step that gives values gave a promise.
+// The code of the exception where a step that gives values gave a promise.
 const PROMISE_GIVEN: u32 = 8;
 
-/// The code of the exception where a command of a step was refused.
+// The code of the exception where a command of a step was refused.
 const COMMAND_REFUSED: u32 = 9;
 
 fn broken(code: u32) -> Outcome
@@ -40,7 +40,7 @@ fn ended(ending: &Ending, input: Outcome) -> Outcome
     }
 }
 
-/// The commands of an action, and then its ending.
+// The commands of an action, and then its ending.
 fn act(engine: &mut Engine, action: &Action, input: Outcome) -> Outcome
     requires kept { IsKept engine.old }
     requires running { engine.old.stopped ≡ false }
@@ -56,7 +56,7 @@ fn act(engine: &mut Engine, action: &Action, input: Outcome) -> Outcome
     }
 }
 
-/// A step that finds no memory stops the loop.
+// A step that finds no memory stops the loop.
 fn run_step<S: Steps>(
     engine: &mut Engine,
     n: u64,
@@ -82,7 +82,7 @@ fn run_step<S: Steps>(
     }
 }
 
-/// The step for a value, or the one for an exception.
+// The step for a value, or the one for an exception.
 fn chosen_step(frame: Frame, outcome: &Outcome) -> Option<u32>
     ensures { result ≡ chosen frame.value frame.error outcome.now }
 {
@@ -92,7 +92,7 @@ fn chosen_step(frame: Frame, outcome: &Outcome) -> Option<u32>
     }
 }
 
-/// The step that was chosen runs; where there is none the outcome passes.
+// The step that was chosen runs; where there is none the outcome passes.
 fn pass_step<S: Steps>(
     engine: &mut Engine,
     n: u64,
@@ -115,7 +115,7 @@ fn pass_step<S: Steps>(
     }
 }
 
-/// The continuation has no tree from now on.
+// The continuation has no tree from now on.
 fn clear_tree(engine: &mut Engine, frame: Frame)
     requires kept { IsKept engine.old }
     requires node { RootFits engine.old.nodes.items engine.old.next frame.node }
@@ -132,7 +132,7 @@ fn clear_tree(engine: &mut Engine, frame: Frame)
     put_form(&mut engine.nodes, frame.node, form);
 }
 
-/// The tree of a continuation was evaluated: it is freed, and only then the step runs.
+// The tree of a continuation was evaluated: it is freed, and only then the step runs.
 fn close_frame<S: Steps>(
     engine: &mut Engine,
     frame: Frame,
@@ -155,7 +155,7 @@ fn close_frame<S: Steps>(
     pass_step(engine, frame.node, step, outcome, steps)
 }
 
-/// The outcome of a tree, with the steps that run for it.
+// The outcome of a tree, with the steps that run for it.
 pub(crate) fn evaluate<S: Steps>(
     engine: &mut Engine,
     root: u64,

@@ -17,7 +17,7 @@ use crate::order::{rewind, take_next};
 use crate::turned::Turned;
 use kj_base::Steps;
 
-/// The tree of a Task that is there.
+// The tree of a Task that is there.
 fn task_tree(engine: &Engine, n: u64) -> Option<u64>
     requires { IsRising engine.now.nodes.items }
     ensures { result ≡ task_in (node_found n engine.now.nodes.items) }
@@ -30,7 +30,7 @@ fn task_tree(engine: &Engine, n: u64) -> Option<u64>
     }
 }
 
-/// The tree of a Task is evaluated and freed, and then the Task goes.
+// The tree of a Task is evaluated and freed, and then the Task goes.
 fn run_task<S: Steps>(engine: &mut Engine, n: u64, tree: u64, steps: &mut S)
     requires kept { IsKept engine.old }
     requires running { engine.old.stopped ≡ false }
@@ -47,7 +47,7 @@ fn run_task<S: Steps>(engine: &mut Engine, n: u64, tree: u64, steps: &mut S)
     drop_node(engine, n, steps);
 }
 
-/// What the event of node n does.
+// What the event of node n does.
 fn fire_node<S: Steps>(engine: &mut Engine, n: u64, steps: &mut S)
     requires kept { IsKept engine.old }
     requires running { engine.old.stopped ≡ false }
@@ -62,7 +62,7 @@ fn fire_node<S: Steps>(engine: &mut Engine, n: u64, steps: &mut S)
     }
 }
 
-/// The event of node n fires.
+// The event of node n fires.
 fn fire<S: Steps>(engine: &mut Engine, n: u64, steps: &mut S)
     requires kept { IsKept engine.old }
     requires running { engine.old.stopped ≡ false }

@@ -2,7 +2,7 @@
 ghost use Rattle.std.specs.Prelude.{◌≡◌, ◌<◌, ◌≤◌, ◌+◌, [], ◌∷◌, Some, None, vec_len, vec_capacity, not, ◌==◌, insert};
 ghost use Rattle.loop_core.specs.Names.{root_found, without_named, with_named, place_found, has_name};
 
-/// A name with the root of the tree that it promises.
+// A name with the root of the tree that it promises.
 #[derive(Clone, Copy)]
 pub(crate) struct Named {
     pub name: u32,
@@ -37,7 +37,7 @@ pub(crate) fn is_name(names: &Vec<Named>, name: u32) -> bool
     names.iter().any(|named| named.name == name)
 }
 
-/// The place of the first greater name.
+// The place of the first greater name.
 fn place_of(names: &Vec<Named>, name: u32) -> usize
     ensures place { result ≡ place_found name names.now.items }
     ensures within { result ≤ vec_len names.now }

@@ -3,7 +3,7 @@ ghost use Rattle.std.specs.Prelude.{◌≡◌, ◌<◌, ◌≤◌, ◌++◌, [],
 ghost use Rattle.loop_core.specs.Kept.{IsRising, AreBelow, StandsAt, TreesFit, is_live};
 ghost use Rattle.loop_core.specs.Nodes.{node_found, nodes_changed, without_node, tree_of, is_event, tree_found, owns, owner_found, listener_found, listening_of, readiness_of, ready_found};
 
-/// What a node is. A tree under it is named by the number of its root.
+// What a node is. A tree under it is named by the number of its root.
 #[derive(Clone, Copy)]
 pub(crate) enum Form {
     Later,
@@ -17,14 +17,14 @@ pub(crate) enum Form {
     },
 }
 
-/// A live node with its number.
+// A live node with its number.
 #[derive(Clone, Copy)]
 pub(crate) struct Node {
     pub number: u64,
     pub form: Form,
 }
 
-/// How many nodes have lower numbers, by bisection.
+// How many nodes have lower numbers, by bisection.
 fn count_below(nodes: &Vec<Node>, n: u64) -> usize
     requires { IsRising nodes.now.items }
     ensures below { AreBelow n nodes.now.items result }
@@ -37,7 +37,7 @@ fn count_below(nodes: &Vec<Node>, n: u64) -> usize
     )
 }
 
-/// The place of node n.
+// The place of node n.
 fn place_of(nodes: &Vec<Node>, n: u64) -> Option<usize>
     requires { IsRising nodes.now.items }
     ensures found { IfSome result (StandsAt n nodes.now.items) }
@@ -91,7 +91,7 @@ pub(crate) fn add_node(nodes: &mut Vec<Node>, number: u64, form: Form)
     let _ = nodes.push(Node { number, form });
 }
 
-/// The tree under a node.
+// The tree under a node.
 pub(crate) fn tree_under(form: Form) -> Option<u64>
     ensures { result ≡ tree_of form }
 {
@@ -102,7 +102,7 @@ pub(crate) fn tree_under(form: Form) -> Option<u64>
     }
 }
 
-/// The tree under node n, where the node is live and has one.
+// The tree under node n, where the node is live and has one.
 pub(crate) fn tree_at(nodes: &Vec<Node>, n: u64) -> Option<Option<u64>>
     requires { IsRising nodes.now.items }
     ensures { result ≡ tree_found n nodes.now.items }
@@ -119,7 +119,7 @@ fn is_over(node: Node, n: u64) -> bool
     }
 }
 
-/// The node that owns the tree of node n: it was built later.
+// The node that owns the tree of node n: it was built later.
 fn owner_of(nodes: &Vec<Node>, n: u64) -> Option<Node>
     requires rising { IsRising nodes.now.items }
     requires trees { TreesFit nodes.now.items nodes.now.items }
@@ -144,7 +144,7 @@ pub(crate) fn has_event(form: Form) -> bool
     }
 }
 
-/// Who may listen to a tree: nobody, the owner, or who listens to the owner.
+// Who may listen to a tree: nobody, the owner, or who listens to the owner.
 enum Listening {
     Nobody,
     Owner(u64),
@@ -166,7 +166,7 @@ fn heard_by(owner: Option<Node>) -> Listening
     }
 }
 
-/// The nearest node above node n that has an event; `depth` bounds the way.
+// The nearest node above node n that has an event; `depth` bounds the way.
 pub(crate) fn listener_of(nodes: &Vec<Node>, depth: usize, n: u64) -> Option<u64>
     requires rising { IsRising nodes.now.items }
     requires trees { TreesFit nodes.now.items nodes.now.items }
@@ -185,7 +185,7 @@ pub(crate) fn listener_of(nodes: &Vec<Node>, depth: usize, n: u64) -> Option<u64
     None
 }
 
-/// Whether a node is ready, or the tree on which that depends.
+// Whether a node is ready, or the tree on which that depends.
 enum Readiness {
     Known(bool),
     Of(u64),
@@ -208,7 +208,7 @@ fn told_by(form: Option<Form>) -> Readiness
     }
 }
 
-/// Whether a tree is ready; `depth` bounds the way down.
+// Whether a tree is ready; `depth` bounds the way down.
 pub(crate) fn is_ready(nodes: &Vec<Node>, depth: usize, n: u64) -> bool
     requires { IsRising nodes.now.items }
     ensures { result ≡ ready_found depth n nodes.now.items }

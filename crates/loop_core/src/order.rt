@@ -4,7 +4,7 @@ ghost use Rattle.std.specs.List.{list_any};
 ghost use Rattle.kj_base.specs.Queue.{falls, without_place, next_armed, disarmed, taken, head_of, rewound};
 ghost use Rattle.loop_core.specs.Order.{events_of};
 
-/// The events that wait to fire, in order, with the two places at which new ones come.
+// The events that wait to fire, in order, with the two places at which new ones come.
 #[derive(Drop)]
 pub(crate) struct Order {
     pub events: Vec<u64>,
@@ -92,7 +92,7 @@ pub(crate) fn rewind(order: &mut Order)
     order.depth = 0;
 }
 
-/// The first point goes to the front, and the first event leaves the queue.
+// The first point goes to the front, and the first event leaves the queue.
 pub(crate) fn take_next(order: &mut Order) -> Option<u64>
     ensures head { result ≡ head_of (events_of order.old) }
     ensures events { events_of order.new ≡ taken (rewound (events_of order.old)) }

@@ -8,9 +8,9 @@ use kj_base::{
 };
 use std::test::Fail;
 
-/// Tells a free as the node, and a run as the node and then the step.
-///
-/// Step 5 builds a task, step 6 has a command that is refused, and step 9 finds no memory.
+// Tells a free as the node, and a run as the node and then the step.
+//
+// Step 5 builds a task, step 6 has a command that is refused, and step 9 finds no memory.
 #[derive(Drop)]
 struct Teller {
     told: Vec<u64>,

@@ -5,7 +5,7 @@ ghost use Rattle.loop_core.specs.Walks.{tree_path, frame_found, frames_found};
 
 use crate::nodes::{Form, Node, form_of, tree_at};
 
-/// A continuation whose tree is evaluated first.
+// A continuation whose tree is evaluated first.
 #[derive(Clone, Copy)]
 pub(crate) struct Frame {
     pub node: u64,
@@ -14,7 +14,7 @@ pub(crate) struct Frame {
     pub tree: u64,
 }
 
-/// One more item at the end, for which there is room.
+// One more item at the end, for which there is room.
 pub(crate) fn put_last<T: Drop>(items: &mut Vec<T>, item: T)
     requires { vec_len items.old < vec_capacity items.old }
     ensures items { items.new.items ≡ items.old.items ++ item ∷ [] }
@@ -24,7 +24,7 @@ pub(crate) fn put_last<T: Drop>(items: &mut Vec<T>, item: T)
     let _ = items.push(item);
 }
 
-/// The nodes of a tree, the root first; `depth` bounds the way.
+// The nodes of a tree, the root first; `depth` bounds the way.
 pub(crate) fn go_down(nodes: &Vec<Node>, path: &mut Vec<u64>, depth: usize, root: u64)
     requires rising { IsRising nodes.now.items }
     requires room { depth ≤ vec_capacity path.old }
@@ -71,7 +71,7 @@ fn frame_of(nodes: &Vec<Node>, n: u64) -> Option<Frame>
     }
 }
 
-/// The continuations of a tree, the root first; `depth` bounds the way.
+// The continuations of a tree, the root first; `depth` bounds the way.
 pub(crate) fn open_frames(nodes: &Vec<Node>, frames: &mut Vec<Frame>, depth: usize, root: u64)
     requires rising { IsRising nodes.now.items }
     requires room { depth ≤ vec_capacity frames.old }

@@ -7,6 +7,7 @@ use Rattle.executor_core.specs.declared.request.Request.{Request}
 use Rattle.executor_core.specs.declared.entry.Entry.{Entry}
 use Rattle.executor_core.specs.Acts.{Desk}
 use Rattle.executor_core.specs.Histories.{Legal, board_of, starts_in}
+use Rattle.xthread.specs.declared.executor.TheConstants.{MAX_REQUESTS}
 use Rattle.xthread.specs.declared.answers.Back.{Back}
 use Rattle.xthread.specs.declared.answers.Back.TheVariants.{Unstarted, Ran}
 use Rattle.xthread.specs.declared.place.Place.{Place}
@@ -26,7 +27,7 @@ Grown a b e = b ≡ book a.limit (a.entries ++ e ∷ [])
 
 -- the history is legal, and as short as the room that was made for it
 abbrev pub Sound : Book → Type 0
-Sound b = Legal b.limit b.entries × (length b.entries ≤ 6291457)
+Sound b = Legal b.limit b.entries × (length b.entries ≤ 6 * MAX_REQUESTS + 1)
 
 module _ {P R : Type 0} (fits : P → ℕ → List ℕ → Type 0) where
   abbrev pub HasPayload : StepId → List ℕ → Place P R → Type 0
@@ -68,4 +69,4 @@ pub record Whole {P R : Type 0} (fits : P → ℕ → List ℕ → Type 0) (boar
   pub came : Came log places
   pub log_fits : 6 * board.limit + 1 ≤ log_room
   pub fits_in : board.limit ≤ room
-  pub small : board.limit ≤ 1048576
+  pub small : board.limit ≤ MAX_REQUESTS

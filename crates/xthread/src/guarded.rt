@@ -12,6 +12,7 @@ ghost use Rattle.xthread.specs.Stock.{Book, book, Grown, Sound};
 ghost use Rattle.xthread.specs.Answers.{request, board, Unchanged, NextTells, CancelTells, CollectTells};
 
 use crate::answers::{Cancelled, Collected, Next};
+use crate::executor::MAX_REQUESTS;
 use crate::place::Place;
 use crate::stock::{take_back, take_payload};
 use crate::ticket::Ticket;
@@ -60,9 +61,9 @@ impl<P: Sent, R: Send> Kept for Guarded<P, R> {
 }
 
 impl<P: Sent + Drop, R: Send + Drop> Guarded<P, R> {
-    /// Nothing was submitted. Makes the room for all that may follow: six entries for each request and one more.
+    // Nothing was submitted. Makes the room for all that may follow: six entries for each request and one more.
     pub(crate) fn new(alloc: Global, requests: u32) -> Result<Guarded<P, R>, NoMemory>
-        requires { (1 ≤ requests) × (requests ≤ 1048576) }
+        requires { (1 ≤ requests) × (requests ≤ MAX_REQUESTS) }
         ensures { IfOk result (λ g. g ≡ book requests []) }
     {
         let entries = 6 * requests as usize + 1;
@@ -80,14 +81,14 @@ impl<P: Sent + Drop, R: Send + Drop> Guarded<P, R> {
         Entries::from_vec(self.log)
     }
 
-    /// How many requests were submitted.
+    // How many requests were submitted.
     pub(crate) fn submitted(&self) -> u32
         ensures { result ≡ length (board self.now).requests }
     {
         self.places.len() as u32
     }
 
-    /// The place of the last entry.
+    // The place of the last entry.
     pub(crate) fn last_place(&self) -> u64
         requires { 1 ≤ length self.now.entries }
         ensures { result + 1 ≡ length self.now.entries }
@@ -95,7 +96,7 @@ impl<P: Sent + Drop, R: Send + Drop> Guarded<P, R> {
         self.log.len() as u64 - 1
     }
 
-    /// After a closing: the request waited for its start until then.
+    // After a closing: the request waited for its start until then.
     pub(crate) fn is_unstarted(&self, request: u32) -> bool
         requires { request < length (board self.now).requests }
         ensures { (before : List Entry) → self.now.entries ≡ before ++ entry 0 Close Done ∷ []
@@ -228,7 +229,7 @@ impl<P: Sent + Drop, R: Send + Drop> Guarded<P, R> {
         }
     }
 
-    /// True where the executor was open.
+    // True where the executor was open.
     pub(crate) fn close(&mut self) -> bool
         requires { AllFinished (of_caller 0 self.old.entries) }
         ensures sound { Sound self.new }

@@ -16,6 +16,6 @@ mod ticket;
 mod turns;
 
 pub use answers::{Back, Cancelled, Collected, Next};
-pub use executor::{Executor, ExecutorPass};
+pub use executor::{Executor, ExecutorPass, MAX_REQUESTS};
 pub use guarded::Guarded;
 pub use ticket::Ticket;

@@ -5,7 +5,7 @@ ghost use Rattle.count_lock.specs.Rule.{StartsWith, longer, of, Made};
 ghost use Rattle.executor_core.specs.Histories.{Legal, board_of, AllSpent, Settled};
 ghost use Rattle.xthread.specs.Told.{caller_of, IsReady};
 
-use crate::executor::{Executor, ExecutorPass};
+use crate::executor::{Executor, ExecutorPass, MAX_REQUESTS};
 use crate::guarded::Guarded;
 use count_lock::{CountLock, SplitRefused};
 use executor_core::Entries;
@@ -20,7 +20,7 @@ impl<P: Sent + Drop, R: Send + Drop> Executor<P, R> {
         alloc: Global,
         requests: u32,
     ) -> Result<(Executor<P, R>, ExecutorPass<P, R>), NoMemory>
-        requires { (1 ≤ requests) × (requests ≤ 1048576) }
+        requires { (1 ≤ requests) × (requests ≤ MAX_REQUESTS) }
         ensures ready { IfOk result (λ r. IsReady r.0.lock r.1) }
         ensures target { IfOk result (λ r. (constant r.1 ≡ requests) × (number r.1 ≡ 0) × IsUnsplit r.1) }
         ensures empty { IfOk result (λ r. (seen r.1 ≡ []) × (mine r.1 ≡ []) × (kin r.1 ≡ [])) }

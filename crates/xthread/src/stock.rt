@@ -7,7 +7,7 @@ use crate::answers::Back;
 use crate::place::Place;
 use std::mem;
 
-/// The payload that waits there.
+// The payload that waits there.
 pub(crate) fn take_payload<P, R>(places: &mut Vec<Place<P, R>>, request: u32) -> P
     requires { (p : P) × (slice_get places.old.items request ≡ Some (Waiting p)) }
     ensures payload { slice_get places.old.items request ≡ Some (Waiting result) }
@@ -20,7 +20,7 @@ pub(crate) fn take_payload<P, R>(places: &mut Vec<Place<P, R>>, request: u32) ->
     }
 }
 
-/// The payload or the result that is there.
+// The payload or the result that is there.
 pub(crate) fn take_back<P, R>(places: &mut Vec<Place<P, R>>, request: u32) -> Back<P, R>
     requires { ((p : P) × (slice_get places.old.items request ≡ Some (Waiting p))) ⊎ ((r : R) × (slice_get places.old.items request ≡ Some (Finished r))) }
     ensures back { IsBack (slice_get places.old.items request) result }

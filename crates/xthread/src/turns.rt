@@ -16,7 +16,7 @@ use kj_base::Sent;
 use std::sync::Wait;
 
 impl<P: Sent + Drop, R: Send + Drop> Executor<P, R> {
-    /// Waits for its turn.
+    // Waits for its turn.
     pub(crate) fn take<W: Wait>(&self, rt: &W, pass: &mut ExecutorPass<P, R>) -> Held<Guarded<P, R>>
         requires { IsReady self.now.lock pass.old }
         ensures { Taken self.now.lock pass.old pass.new result.value }
@@ -24,7 +24,7 @@ impl<P: Sent + Drop, R: Send + Drop> Executor<P, R> {
         self.lock.acquire(rt, pass)
     }
 
-    /// Ends the turn with an entry more, which ends no request.
+    // Ends the turn with an entry more, which ends no request.
     pub(crate) fn note(
         &self,
         held: Held<Guarded<P, R>>,
@@ -40,7 +40,7 @@ impl<P: Sent + Drop, R: Send + Drop> Executor<P, R> {
         held.release(&self.lock, pass, entry)
     }
 
-    /// Ends the turn with an entry more, which ends this request alone.
+    // Ends the turn with an entry more, which ends this request alone.
     pub(crate) fn note_end(
         &self,
         held: Held<Guarded<P, R>>,
@@ -61,7 +61,7 @@ impl<P: Sent + Drop, R: Send + Drop> Executor<P, R> {
         noted.release(&self.lock, pass)
     }
 
-    /// Ends the turn with the closing, which ends each request that waits for its start.
+    // Ends the turn with the closing, which ends each request that waits for its start.
     pub(crate) fn note_close(&self, held: Held<Guarded<P, R>>, pass: &mut ExecutorPass<P, R>)
         requires lock { IsPassOf self.now.lock pass.old × HasTurn pass.old × (words_of self.now.lock ≡ constant pass.old) }
         requires value { (held.value.entries ≡ seen pass.old ++ entry 0 Close Done ∷ []) × (held.value.limit ≡ constant pass.old) }
@@ -84,7 +84,7 @@ impl<P: Sent + Drop, R: Send + Drop> Executor<P, R> {
         noted.release(&self.lock, pass)
     }
 
-    /// Ends the turn with nothing changed.
+    // Ends the turn with nothing changed.
     pub(crate) fn leave(&self, held: Held<Guarded<P, R>>, pass: &mut ExecutorPass<P, R>)
         requires lock { IsPassOf self.now.lock pass.old × HasTurn pass.old }
         requires value { (held.value.entries ≡ seen pass.old) × (held.value.limit ≡ constant pass.old) }

@@ -5,7 +5,7 @@ use super::Read::{self, Bad, Fault, HeadBad, HeadMore, More, Whole};
 /// The octets, what they come to, and the body.
 pub type Case = (&'static [u8], Read, &'static [u8]);
 
-/// Messages: a head, and the body that its framing tells.
+// Messages: a head, and the body that its framing tells.
 static MESSAGES: [Case; 56] = [
     // ---- Start lines and field lines, read as messages.
     // a head without its empty line (2.1)
@@ -270,7 +270,7 @@ static MESSAGES: [Case; 56] = [
     ),
 ];
 
-/// Chunked bodies by themselves.
+// Chunked bodies by themselves.
 static BODIES: [Case; 38] = [
     // ---- Lines of chunks that are in order, read as bodies.
     // a chunk with an extension (7.1.1)
