@@ -55,7 +55,8 @@ fn hex_digit(n: u8) -> u8
 #[tactic(auto, unfolding(crate::specs::Generator::chunk))]
 fn push_chunk(out: &mut Bytes, size: u8, generator: &mut Generator) -> Result<(), NoMemory>
     requires { size < 16 }
-    ensures text { OnOk result (out.new ≡ out.old ++ chunk size (letters size generator.old.state)) }
+    ensures text { OnOk result (out.new ≡ out.old
+        ++ chunk size (letters size generator.old.state)) }
     ensures after { OnOk result (generator.new.state ≡ after size generator.old.state) }
 {
     if size == 0 {
@@ -73,7 +74,8 @@ fn push_chunked_post(
     place: Place,
     generator: &mut Generator,
 ) -> Result<(), NoMemory>
-    ensures text { OnOk result (out.new ≡ out.old ++ chunked_post place.conn place.request generator.old.state) }
+    ensures text { OnOk result (out.new ≡ out.old
+        ++ chunked_post place.conn place.request generator.old.state) }
     ensures after { OnOk result (generator.new.state ≡ after_body generator.old.state) }
 {
     let size = generator.draw_size();
@@ -85,7 +87,8 @@ fn push_chunked_post(
 
 #[tactic(auto, unfolding(crate::specs::Generator::sized_post))]
 fn push_sized_post(out: &mut Bytes, place: Place, generator: &mut Generator) -> Result<(), NoMemory>
-    ensures text { OnOk result (out.new ≡ out.old ++ sized_post place.conn place.request generator.old.state) }
+    ensures text { OnOk result (out.new ≡ out.old
+        ++ sized_post place.conn place.request generator.old.state) }
     ensures after { OnOk result (generator.new.state ≡ after_body generator.old.state) }
 {
     let size = generator.draw_size();
@@ -106,7 +109,8 @@ fn push_bare_request(out: &mut Bytes, method: &[u8], place: Place) -> Result<(),
 // Appends a request. An `Err` may leave a part of it.
 #[tactic(auto, unfolding(crate::specs::Generator::request_text, crate::specs::Generator::after_request))]
 fn push_request(out: &mut Bytes, place: Place, generator: &mut Generator) -> Result<(), NoMemory>
-    ensures text { OnOk result (out.new ≡ out.old ++ request_text place.conn place.request generator.old.state) }
+    ensures text { OnOk result (out.new ≡ out.old
+        ++ request_text place.conn place.request generator.old.state) }
     ensures after { OnOk result (generator.new.state ≡ after_request generator.old.state) }
 {
     match generator.draw() % 4 {
@@ -124,8 +128,10 @@ fn push_requests(
     requests: u32,
     generator: &mut Generator,
 ) -> Result<(), NoMemory>
-    ensures text { OnOk result (out.new ≡ out.old ++ requests_text conn 0 requests generator.old.state) }
-    ensures after { OnOk result (generator.new.state ≡ after_requests requests generator.old.state) }
+    ensures text { OnOk result (out.new ≡ out.old
+        ++ requests_text conn 0 requests generator.old.state) }
+    ensures after { OnOk result (generator.new.state
+        ≡ after_requests requests generator.old.state) }
 {
     for request in 0..requests {
         push_request(out, Place { conn, request }, generator)?;

@@ -35,7 +35,8 @@ impl From<NoMemory> for RecordRefused {
 
 // The octets of the connection at the front, and what follows its text.
 fn read_conn(bytes: &[u8]) -> Option<(&[u8], &[u8])>
-    ensures { MatchOption result (HasNoConn bytes.now) (λ r. bytes.now ≡ conn_text r.0.now ++ r.1.now) }
+    ensures { MatchOption result (HasNoConn bytes.now) (λ r. bytes.now ≡ conn_text r.0.now
+        ++ r.1.now) }
 {
     let numbered = bytes.strip_prefix(b"conn ")?;
     let (len, octets) = read_number(numbered)?;
@@ -78,7 +79,8 @@ pub fn read_records(alloc: Global, bytes: &[u8]) -> Result<Records, RecordRefuse
 
 /// A text is that of at most one recording, whose connections have fewer than 2^64 octets each.
 pub fn one_recording()
-    ensures { (a b : List (List ℕ)) → All (λ conn. length conn < 2 ^ 64) a → All (λ conn. length conn < 2 ^ 64) b → record_text a ≡ record_text b → a ≡ b }
+    ensures { (a b : List (List ℕ)) → All (λ conn. length conn < 2 ^ 64) a
+        → All (λ conn. length conn < 2 ^ 64) b → record_text a ≡ record_text b → a ≡ b }
 {}
 
 /// Octets are the text of a recording, or of none, and then so many of its connections are whole.

@@ -68,8 +68,10 @@ impl<T: Kept> CountLock<T> {
         words: u32,
     ) -> Result<(CountLock<T>, Pass<T>), (NoMemory, T)>
         requires { T.entries value ≡ [] }
-        ensures lock { IfOk result (λ r. (constant_of r.0 ≡ T.constant value) × (words_of r.0 ≡ words)) }
-        ensures pass { IfOk result (λ r. IsPassOf r.0 r.1 × IsResting r.1 × (number r.1 ≡ 0) × (first_spare r.1 ≡ 1) × (end_spare r.1 ≡ 4294967296)) }
+        ensures lock { IfOk result (λ r. (constant_of r.0 ≡ T.constant value)
+            × (words_of r.0 ≡ words)) }
+        ensures pass { IfOk result (λ r. IsPassOf r.0 r.1 × IsResting r.1 × (number r.1 ≡ 0)
+            × (first_spare r.1 ≡ 1) × (end_spare r.1 ≡ 4294967296)) }
         ensures empty { IfOk result (λ r. (seen r.1 ≡ []) × (mine r.1 ≡ []) × (kin r.1 ≡ [])) }
         ensures err { IfErr result (λ e. e.1 ≡ value) }
     {
@@ -112,14 +114,20 @@ impl<T: Kept> CountLock<T> {
     /// A pass with a number of its own, which has seen as much.
     pub fn split(&self, pass: &mut Pass<T>) -> Result<Pass<T>, SplitRefused>
         requires lock { IsPassOf self.now pass.old × IsResting pass.old }
-        ensures lock { IsPassOf self.now pass.new × IsResting pass.new × (number pass.new ≡ number pass.old) }
-        ensures same { (seen pass.new ≡ seen pass.old) × (mine pass.new ≡ mine pass.old) × (kin pass.new ≡ kin pass.old) }
-        ensures ok { IfOk result (λ p. IsPassOf self.now p × IsResting p × (number p ≡ first_spare pass.old)) }
+        ensures lock { IsPassOf self.now pass.new × IsResting pass.new
+            × (number pass.new ≡ number pass.old) }
+        ensures same { (seen pass.new ≡ seen pass.old) × (mine pass.new ≡ mine pass.old)
+            × (kin pass.new ≡ kin pass.old) }
+        ensures ok { IfOk result (λ p. IsPassOf self.now p × IsResting p
+            × (number p ≡ first_spare pass.old)) }
         ensures made { IfOk result (λ p. (seen p ≡ seen pass.old) × (mine p ≡ []) × (kin p ≡ [])) }
-        ensures spare { IfOk result (λ p. (first_spare pass.new ≡ first_spare pass.old + 1) × (end_spare pass.new ≡ first_spare p) × (end_spare p ≡ end_spare pass.old)
+        ensures spare { IfOk result (λ p. (first_spare pass.new ≡ first_spare pass.old + 1)
+            × (end_spare pass.new ≡ first_spare p) × (end_spare p ≡ end_spare pass.old)
             × (first_spare p + (end_spare pass.old - first_spare pass.old - 1) / 2 ≡ end_spare pass.old)) }
-        ensures accounts { IfOk result (λ p. Accounts T.by pass.new (seen pass.new) × Accounts T.by p (seen p)) }
-        ensures err { IfErr result (λ _. (first_spare pass.old ≡ end_spare pass.old) × IsSamePass pass.old pass.new) }
+        ensures accounts { IfOk result (λ p. Accounts T.by pass.new (seen pass.new)
+            × Accounts T.by p (seen p)) }
+        ensures err { IfErr result (λ _. (first_spare pass.old ≡ end_spare pass.old)
+            × IsSamePass pass.old pass.new) }
     {
         if pass.from == pass.until {
             return Err(SplitRefused::Numbers);
@@ -145,8 +153,10 @@ impl<T: Kept> CountLock<T> {
     pub fn join(&self, into: &mut Pass<T>, from: Pass<T>)
         requires into { IsPassOf self.now into.old × IsResting into.old }
         requires from { IsPassOf self.now from × IsResting from }
-        ensures pass { IsSamePass into.old into.new × IsResting into.new × (mine into.new ≡ mine into.old) }
-        ensures seen { (seen into.new ≡ longer (seen into.old) (seen from)) × StartsWith (seen into.new) (seen into.old) × StartsWith (seen into.new) (seen from) }
+        ensures pass { IsSamePass into.old into.new × IsResting into.new
+            × (mine into.new ≡ mine into.old) }
+        ensures seen { (seen into.new ≡ longer (seen into.old) (seen from))
+            × StartsWith (seen into.new) (seen into.old) × StartsWith (seen into.new) (seen from) }
         ensures kin { kin into.new ≡ family_of from ++ kin into.old }
         ensures accounts { Accounts T.by into.new (seen into.new) }
     {
@@ -230,8 +240,10 @@ impl<T: Kept> CountLock<T> {
         requires lock { IsPassOf self.now pass.old }
         requires rests { IsResting pass.old }
         ensures pass { IsSamePass pass.old pass.new × HasTurn pass.new }
-        ensures value { (T.entries result.value ≡ seen pass.new) × (T.constant result.value ≡ constant pass.new) }
-        ensures seen { StartsWith (seen pass.new) (seen pass.old) × StartsWith (seen pass.new) (known pass.old) }
+        ensures value { (T.entries result.value ≡ seen pass.new)
+            × (T.constant result.value ≡ constant pass.new) }
+        ensures seen { StartsWith (seen pass.new) (seen pass.old)
+            × StartsWith (seen pass.new) (known pass.old) }
         ensures mine { (mine pass.new ≡ mine pass.old) × (kin pass.new ≡ kin pass.old) }
         ensures accounts { Accounts T.by pass.new (seen pass.new) }
         ensures unsplit { IsUnsplit pass.old → seen pass.new ≡ mine pass.new }
@@ -248,9 +260,12 @@ impl<T: Kept> CountLock<T> {
         requires lock { IsPassOf self.now pass.old × IsResting pass.old }
         requires word { word < words_of self.now }
         ensures pass { IsSamePass pass.old pass.new × IsResting pass.new }
-        ensures same { (seen pass.new ≡ seen pass.old) × (mine pass.new ≡ mine pass.old) × (kin pass.new ≡ kin pass.old) }
-        ensures some { IfSome result (λ p. T.fin (constant pass.old) (known pass.new) word ≡ Some p) }
-        ensures none { IfNone result ((known pass.new ≡ known pass.old) × (T.fin (constant pass.old) (seen pass.old) word ≡ None)) }
+        ensures same { (seen pass.new ≡ seen pass.old) × (mine pass.new ≡ mine pass.old)
+            × (kin pass.new ≡ kin pass.old) }
+        ensures some { IfSome result (λ p. T.fin (constant pass.old) (known pass.new) word
+            ≡ Some p) }
+        ensures none { IfNone result ((known pass.new ≡ known pass.old)
+            × (T.fin (constant pass.old) (seen pass.old) word ≡ None)) }
     {
         self.load(&mut pass.seat, word)
     }
@@ -281,13 +296,18 @@ impl<T: Kept> Held<T> {
     /// The value stands for one entry more, which ends no word.
     pub fn release(self, lock: &CountLock<T>, pass: &mut Pass<T>, entry: T::Entry)
         requires lock { IsPassOf lock.now pass.old × HasTurn pass.old }
-        requires entry { (T.entries self.value ≡ seen pass.old ++ entry ∷ []) × (T.by entry ≡ number pass.old) × (T.constant self.value ≡ constant pass.old) }
-        requires plain { (k : ℕ) → T.fin (constant pass.old) (seen pass.old ++ entry ∷ []) k ≡ Some (length (seen pass.old)) → ⊥ }
+        requires entry { (T.entries self.value ≡ seen pass.old ++ entry ∷ [])
+            × (T.by entry ≡ number pass.old) × (T.constant self.value ≡ constant pass.old) }
+        requires plain { (k : ℕ)
+            → T.fin (constant pass.old) (seen pass.old ++ entry ∷ []) k
+            ≡ Some (length (seen pass.old)) → ⊥ }
         requires room { length (seen pass.old) + 1 < 2 ^ 64 }
         ensures pass { IsSamePass pass.old pass.new × IsResting pass.new }
-        ensures seen { (seen pass.new ≡ seen pass.old ++ entry ∷ []) × (mine pass.new ≡ mine pass.old ++ entry ∷ []) }
+        ensures seen { (seen pass.new ≡ seen pass.old ++ entry ∷ [])
+            × (mine pass.new ≡ mine pass.old ++ entry ∷ []) }
         ensures kin { kin pass.new ≡ kin pass.old }
-        ensures accounts { Accounts T.by pass.old (seen pass.old) → Accounts T.by pass.new (seen pass.new) }
+        ensures accounts { Accounts T.by pass.old (seen pass.old)
+            → Accounts T.by pass.new (seen pass.new) }
     {
         let Held { value } = self;
         lock.put(&mut pass.seat, value);
@@ -299,11 +319,13 @@ impl<T: Kept> Held<T> {
     /// Gives the value back as it was; the history stays.
     pub fn release_unchanged(self, lock: &CountLock<T>, pass: &mut Pass<T>)
         requires lock { IsPassOf lock.now pass.old × HasTurn pass.old }
-        requires value { (T.entries self.value ≡ seen pass.old) × (T.constant self.value ≡ constant pass.old) }
+        requires value { (T.entries self.value ≡ seen pass.old)
+            × (T.constant self.value ≡ constant pass.old) }
         ensures pass { IsSamePass pass.old pass.new × IsResting pass.new }
         ensures seen { (seen pass.new ≡ seen pass.old) × (mine pass.new ≡ mine pass.old) }
         ensures kin { kin pass.new ≡ kin pass.old }
-        ensures accounts { Accounts T.by pass.old (seen pass.old) → Accounts T.by pass.new (seen pass.new) }
+        ensures accounts { Accounts T.by pass.old (seen pass.old)
+            → Accounts T.by pass.new (seen pass.new) }
     {
         let Held { value } = self;
         lock.put(&mut pass.seat, value);
@@ -314,13 +336,17 @@ impl<T: Kept> Held<T> {
     /// The value stands for one entry more, which is the last of the history now. The pass keeps the turn.
     pub fn note(self, lock: &CountLock<T>, pass: &mut Pass<T>, entry: T::Entry) -> Noted<T>
         requires lock { IsPassOf lock.now pass.old × HasTurn pass.old }
-        requires entry { (T.entries self.value ≡ seen pass.old ++ entry ∷ []) × (T.by entry ≡ number pass.old) × (T.constant self.value ≡ constant pass.old) }
+        requires entry { (T.entries self.value ≡ seen pass.old ++ entry ∷ [])
+            × (T.by entry ≡ number pass.old) × (T.constant self.value ≡ constant pass.old) }
         requires room { length (seen pass.old) + 1 < 2 ^ 64 }
-        ensures pass { IsSamePass pass.old pass.new × HasNoted pass.new × (place pass.new ≡ length (seen pass.old)) × (marked pass.new ≡ []) }
+        ensures pass { IsSamePass pass.old pass.new × HasNoted pass.new
+            × (place pass.new ≡ length (seen pass.old)) × (marked pass.new ≡ []) }
         ensures value { result.value ≡ self.value }
-        ensures seen { (seen pass.new ≡ seen pass.old ++ entry ∷ []) × (mine pass.new ≡ mine pass.old ++ entry ∷ []) }
+        ensures seen { (seen pass.new ≡ seen pass.old ++ entry ∷ [])
+            × (mine pass.new ≡ mine pass.old ++ entry ∷ []) }
         ensures kin { kin pass.new ≡ kin pass.old }
-        ensures accounts { Accounts T.by pass.old (seen pass.old) → Accounts T.by pass.new (seen pass.new) }
+        ensures accounts { Accounts T.by pass.old (seen pass.old)
+            → Accounts T.by pass.new (seen pass.new) }
     {
         let Held { value } = self;
         let seat = &mut pass.seat;
@@ -346,8 +372,10 @@ impl<T: Kept> Noted<T> {
         requires word { (word < words_of lock.now) × (at ≡ place pass.old) × (at + 1 < 2 ^ 64) }
         requires ends { T.fin (constant pass.old) (seen pass.old) word ≡ Some at }
         ensures pass { IsSamePass pass.old pass.new × HasNoted pass.new }
-        ensures marked { (place pass.new ≡ place pass.old) × (marked pass.new ≡ word ∷ marked pass.old) }
-        ensures same { (seen pass.new ≡ seen pass.old) × (mine pass.new ≡ mine pass.old) × (kin pass.new ≡ kin pass.old) }
+        ensures marked { (place pass.new ≡ place pass.old)
+            × (marked pass.new ≡ word ∷ marked pass.old) }
+        ensures same { (seen pass.new ≡ seen pass.old) × (mine pass.new ≡ mine pass.old)
+            × (kin pass.new ≡ kin pass.old) }
     {
         lock.mark(&mut pass.seat, word, at);
     }
@@ -355,11 +383,16 @@ impl<T: Kept> Noted<T> {
     /// Ends the turn, once each word is marked that the entry ends.
     pub fn release(self, lock: &CountLock<T>, pass: &mut Pass<T>)
         requires lock { IsPassOf lock.now pass.old × HasNoted pass.old }
-        requires value { (T.entries self.value ≡ seen pass.old) × (T.constant self.value ≡ constant pass.old) }
-        requires marked { (k : ℕ) → T.fin (constant pass.old) (seen pass.old) k ≡ Some (place pass.old) → is_in k (marked pass.old) ≡ true }
+        requires value { (T.entries self.value ≡ seen pass.old)
+            × (T.constant self.value ≡ constant pass.old) }
+        requires marked { (k : ℕ)
+            → T.fin (constant pass.old) (seen pass.old) k ≡ Some (place pass.old)
+            → is_in k (marked pass.old) ≡ true }
         ensures pass { IsSamePass pass.old pass.new × IsResting pass.new }
-        ensures same { (seen pass.new ≡ seen pass.old) × (mine pass.new ≡ mine pass.old) × (kin pass.new ≡ kin pass.old) }
-        ensures accounts { Accounts T.by pass.old (seen pass.old) → Accounts T.by pass.new (seen pass.new) }
+        ensures same { (seen pass.new ≡ seen pass.old) × (mine pass.new ≡ mine pass.old)
+            × (kin pass.new ≡ kin pass.old) }
+        ensures accounts { Accounts T.by pass.old (seen pass.old)
+            → Accounts T.by pass.new (seen pass.new) }
     {
         let Noted { value } = self;
         lock.put(&mut pass.seat, value);

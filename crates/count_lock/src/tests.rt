@@ -50,7 +50,8 @@ impl Marks {
     }
 
     fn is_full(&self) -> bool
-        ensures { result ≡ false → (length self.now.log.items < vec_capacity self.now.log) × (length self.now.log.items + 1 < 2 ^ 64) }
+        ensures { result ≡ false → (length self.now.log.items < vec_capacity self.now.log)
+            × (length self.now.log.items + 1 < 2 ^ 64) }
     {
         self.log.len() >= self.log.capacity()
     }
@@ -68,7 +69,8 @@ fn write<R: Wait>(rt: &R, lock: &CountLock<Marks>, pass: &mut Pass<Marks>, value
     requires lock { IsPassOf lock.now pass.old × IsResting pass.old }
     ensures pass { IsSamePass pass.old pass.new × IsResting pass.new }
     ensures seen { StartsWith (seen pass.new) (seen pass.old) }
-    ensures written { result ≡ true → mine pass.new ≡ mine pass.old ++ record { by = number pass.old; value = value } ∷ [] }
+    ensures written { result ≡ true
+        → mine pass.new ≡ mine pass.old ++ record { by = number pass.old; value = value } ∷ [] }
     ensures full { result ≡ false → mine pass.new ≡ mine pass.old }
 {
     let mut held = lock.acquire(rt, pass);

@@ -55,7 +55,8 @@ impl EventLinks {
     // An event leaves the queue: a point at it goes to the event behind it.
     fn take_out(&mut self, event: u32)
         requires { is_in event self.old.events.list ≡ true }
-        ensures events { self.new.events ≡ without_place (place_of event self.old.events.list) self.old.events }
+        ensures events { self.new.events
+            ≡ without_place (place_of event self.old.events.list) self.old.events }
         ensures size { self.new.size ≡ self.old.size }
     {
         let behind = self.lists.after(self.size, event).unwrap_or(self.size);

@@ -221,7 +221,9 @@ impl Board {
 
     // It waits, or runs, as before.
     fn set(&mut self, request: u32, state: State)
-        requires { (q : Request) × (slice_get self.old.requests request ≡ Some q) × (queued_state state ≡ queued_state q.state) × (running_state state ≡ running_state q.state) × (canceling_state state ≡ false) }
+        requires { (q : Request) × (slice_get self.old.requests request ≡ Some q)
+            × (queued_state state ≡ queued_state q.state)
+            × (running_state state ≡ running_state q.state) × (canceling_state state ≡ false) }
         ensures { self.new ≡ with_state self.old request state }
     {
         set_state_at(&mut self.requests, request as usize, state);
@@ -229,7 +231,8 @@ impl Board {
 
     // The first that waits runs from now on.
     fn start(&mut self, request: u32)
-        requires { (marks queued_state self.old.requests request ≡ 1) × ((k : ℕ) → k < request → marks queued_state self.old.requests k ≡ 0) }
+        requires { (marks queued_state self.old.requests request ≡ 1)
+            × ((k : ℕ) → k < request → marks queued_state self.old.requests k ≡ 0) }
         ensures { self.new ≡ with_state self.old request Executing }
     {
         let at = request as usize;
@@ -240,7 +243,8 @@ impl Board {
     }
 
     fn withdraw(&mut self, request: u32)
-        requires { (q : Request) × (slice_get self.old.requests request ≡ Some q) × (queued_state q.state ≡ true) }
+        requires { (q : Request) × (slice_get self.old.requests request ≡ Some q)
+            × (queued_state q.state ≡ true) }
         ensures { self.new ≡ with_state self.old request Spent }
     {
         let at = request as usize;
@@ -250,7 +254,8 @@ impl Board {
 
     // From now on the target is to be told that the request is to end.
     fn ask(&mut self, request: u32)
-        requires { (q : Request) × (slice_get self.old.requests request ≡ Some q) × (running_state q.state ≡ true) }
+        requires { (q : Request) × (slice_get self.old.requests request ≡ Some q)
+            × (running_state q.state ≡ true) }
         ensures { self.new ≡ with_state self.old request Canceling }
     {
         let at = request as usize;
@@ -260,7 +265,8 @@ impl Board {
 
     fn first_queued(&self) -> Option<u32>
         ensures value { result ≡ least is_queued self.now.requests }
-        ensures first { IfSome result (λ r. (marks queued_state self.now.requests r ≡ 1) × ((k : ℕ) → k < r → marks queued_state self.now.requests k ≡ 0)) }
+        ensures first { IfSome result (λ r. (marks queued_state self.now.requests r ≡ 1)
+            × ((k : ℕ) → k < r → marks queued_state self.now.requests k ≡ 0)) }
         ensures within { IfSome result (λ r. r < length self.now.requests) }
     {
         // Numbers of requests are below the limit, so they fit a `u32`.

@@ -37,8 +37,10 @@ impl Chain {
 
     // The least number.
     pub(crate) fn least(&self) -> Option<usize>
-        ensures some { IfSome result (λ r. (w : Marks) (limit : ℕ) → IsChain w limit self.now → (w r ≡ 1) × (r < limit) × ((k : ℕ) → k < r → w k ≡ 0)) }
-        ensures none { IfNone result ((w : Marks) (limit : ℕ) → IsChain w limit self.now → (k : ℕ) → w k ≡ 0) }
+        ensures some { IfSome result (λ r. (w : Marks) (limit : ℕ) → IsChain w limit self.now
+            → (w r ≡ 1) × (r < limit) × ((k : ℕ) → k < r → w k ≡ 0)) }
+        ensures none { IfNone result ((w : Marks) (limit : ℕ) → IsChain w limit self.now → (k : ℕ)
+            → w k ≡ 0) }
     {
         if self.first < self.bound {
             Some(self.first)
@@ -56,15 +58,18 @@ impl Chain {
     // The number after one of the set, or else the bound.
     pub(crate) fn after(&self, at: usize) -> usize
         requires { (w : Marks) × (limit : ℕ) × IsChain w limit self.now × (w at ≡ 1) }
-        ensures { (w : Marks) (limit : ℕ) → IsChain w limit self.now → w at ≡ 1 → IsAfter w self.now.bound at result }
+        ensures { (w : Marks) (limit : ℕ) → IsChain w limit self.now → w at ≡ 1
+            → IsAfter w self.now.bound at result }
     {
         self.after[at]
     }
 
     // Adds a number that is not below the bound.
     pub(crate) fn push(&mut self, at: usize)
-        requires room { (self.old.end ≤ self.old.bound) × (self.old.bound ≤ at) × (at < length self.old.before.items) × (at < length self.old.after.items) }
-        ensures chain { (w v : Marks) (limit : ℕ) → IsChain w limit self.old → With w v at → IsChain v limit self.new }
+        requires room { (self.old.end ≤ self.old.bound) × (self.old.bound ≤ at)
+            × (at < length self.old.before.items) × (at < length self.old.after.items) }
+        ensures chain { (w v : Marks) (limit : ℕ) → IsChain w limit self.old → With w v at
+            → IsChain v limit self.new }
         ensures bound { self.new.bound ≡ at + 1 }
     {
         self.link_left(self.end, at);
@@ -77,7 +82,8 @@ impl Chain {
     // Takes a number out of the set.
     pub(crate) fn remove(&mut self, at: usize)
         requires { (w : Marks) × (limit : ℕ) × IsChain w limit self.old × (w at ≡ 1) }
-        ensures chain { (w v : Marks) (limit : ℕ) → IsChain w limit self.old → w at ≡ 1 → Without w v at → IsChain v limit self.new }
+        ensures chain { (w v : Marks) (limit : ℕ) → IsChain w limit self.old → w at ≡ 1
+            → Without w v at → IsChain v limit self.new }
         ensures bound { self.new.bound ≡ self.old.bound }
     {
         let before = self.before[at];
@@ -88,7 +94,8 @@ impl Chain {
 
     // Takes all numbers out of the set.
     pub(crate) fn clear(&mut self)
-        ensures chain { (w v : Marks) (limit : ℕ) → IsChain w limit self.old → ((k : ℕ) → v k ≡ 0) → IsChain v limit self.new }
+        ensures chain { (w v : Marks) (limit : ℕ) → IsChain w limit self.old → ((k : ℕ) → v k ≡ 0)
+            → IsChain v limit self.new }
         ensures bound { self.new.bound ≡ self.old.bound }
     {
         self.first = self.bound;
@@ -98,7 +105,8 @@ impl Chain {
     fn link_left(&mut self, before: usize, after: usize)
         requires { before ≤ length self.old.after.items }
         ensures left { LinksLeft before after self.old.first self.new.first self.old.after.items self.new.after.items }
-        ensures rest { (self.new.end ≡ self.old.end) × (self.new.bound ≡ self.old.bound) × (self.new.before.items ≡ self.old.before.items) }
+        ensures rest { (self.new.end ≡ self.old.end) × (self.new.bound ≡ self.old.bound)
+            × (self.new.before.items ≡ self.old.before.items) }
     {
         if before == 0 {
             self.first = after;
@@ -110,7 +118,8 @@ impl Chain {
     fn link_right(&mut self, before: usize, after: usize)
         requires { (after ≤ self.old.bound) × (self.old.bound ≤ length self.old.before.items) }
         ensures right { LinksRight before after self.old.bound self.old.end self.new.end self.old.before.items self.new.before.items }
-        ensures rest { (self.new.first ≡ self.old.first) × (self.new.bound ≡ self.old.bound) × (self.new.after.items ≡ self.old.after.items) }
+        ensures rest { (self.new.first ≡ self.old.first) × (self.new.bound ≡ self.old.bound)
+            × (self.new.after.items ≡ self.old.after.items) }
     {
         if after == self.bound {
             self.end = before;

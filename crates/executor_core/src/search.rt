@@ -10,8 +10,11 @@ use crate::request::{Request, State};
 // The least request that was asked to end and isn't told yet: `from` or one of those behind it that run.
 pub(crate) fn least_canceling(all: &[Request], running: &Chain, from: usize) -> Option<usize>
     requires { (limit : ℕ) × (waiting : Chain) × Linked limit all.now waiting running.now from }
-    ensures some { IfSome result (λ r. (least is_canceling all.now ≡ Some r) × (r < length all.now) × (marks running_state all.now r ≡ 1) × ((k : ℕ) → k < r → marks canceling_state all.now k ≡ 0)) }
-    ensures none { IfNone result ((least is_canceling all.now ≡ None) × ((k : ℕ) → marks canceling_state all.now k ≡ 0)) }
+    ensures some { IfSome result (λ r. (least is_canceling all.now ≡ Some r) × (r < length all.now)
+        × (marks running_state all.now r ≡ 1)
+        × ((k : ℕ) → k < r → marks canceling_state all.now k ≡ 0)) }
+    ensures none { IfNone result ((least is_canceling all.now ≡ None)
+        × ((k : ℕ) → marks canceling_state all.now k ≡ 0)) }
 {
     let mut at = from;
     while at < running.bound() {

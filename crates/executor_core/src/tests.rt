@@ -28,7 +28,8 @@ fn is_spent(q: &Request) -> bool
 }
 
 fn none_runs(all: &[Request]) -> bool
-    ensures { result ≡ true → (r : ℕ) (q : Request) → slice_get all.now r ≡ Some q → running_state q.state ≡ false }
+    ensures { result ≡ true → (r : ℕ) (q : Request) → slice_get all.now r ≡ Some q
+        → running_state q.state ≡ false }
 {
     for i in 0..all.len() {
         if is_running(&all[i]) {
@@ -39,7 +40,8 @@ fn none_runs(all: &[Request]) -> bool
 }
 
 fn runs(all: &[Request], request: u32) -> bool
-    ensures { result ≡ true → (q : Request) × (slice_get all.now request ≡ Some q) × (running_state q.state ≡ true) }
+    ensures { result ≡ true → (q : Request) × (slice_get all.now request ≡ Some q)
+        × (running_state q.state ≡ true) }
 {
     match all.get(request as usize) {
         Some(q) => is_running(q),
@@ -48,7 +50,8 @@ fn runs(all: &[Request], request: u32) -> bool
 }
 
 fn is_own(all: &[Request], caller: u32, request: u32) -> bool
-    ensures { result ≡ true → (q : Request) × (slice_get all.now request ≡ Some q) × (q.caller ≡ caller) × (spent_state q.state ≡ false) }
+    ensures { result ≡ true → (q : Request) × (slice_get all.now request ≡ Some q)
+        × (q.caller ≡ caller) × (spent_state q.state ≡ false) }
 {
     match all.get(request as usize) {
         Some(q) => q.caller == caller && !is_spent(q),

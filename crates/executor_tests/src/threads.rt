@@ -88,7 +88,8 @@ fn run_three<W: Wait + Threads + Sync>(
     two: TestPass,
     done: &AtomicU32,
 ) -> Three
-    requires { IsIdleTarget executor.now.lock target × IsIdle executor.now.lock one × IsIdle executor.now.lock two }
+    requires { IsIdleTarget executor.now.lock target × IsIdle executor.now.lock one
+        × IsIdle executor.now.lock two }
     ensures target { IsReady executor.now.lock result.0.0 }
     ensures others { IsIdle executor.now.lock result.1.0.0 × IsIdle executor.now.lock result.1.1.0 }
 {
@@ -100,7 +101,8 @@ fn run_three<W: Wait + Threads + Sync>(
         { serve_all(rt, executor, target, done) },
         move || -> ((TestPass, Tally), (TestPass, Tally))
             requires { IsSync W.row × IsIdle executor.now.lock one × IsIdle executor.now.lock two }
-            ensures { IsIdle executor.entry.now.lock result.0.0 × IsIdle executor.entry.now.lock result.1.0 }
+            ensures { IsIdle executor.entry.now.lock result.0.0
+                × IsIdle executor.entry.now.lock result.1.0 }
         { submit_in_two(rt, executor, one, two, done) },
     )
 }

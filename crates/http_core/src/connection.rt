@@ -88,7 +88,8 @@ fn serve<S: Service>(
 ) -> Result<AfterPiece, NoMemory>
     requires { phase_of part ≡ Phase.Going }
     ensures ready { IfOk result IsReadyAfter }
-    ensures serves { (bytes : List ℕ) → IsReading part bytes → Serves S.told (bytes ++ piece.now) output.old output.new result }
+    ensures serves { (bytes : List ℕ) → IsReading part bytes
+        → Serves S.told (bytes ++ piece.now) output.old output.new result }
     ensures grows { Grows output.old output.new }
 {
     let mut rest = piece;
@@ -162,9 +163,11 @@ impl<S: Service> Connection<S> {
     /// memory the output still has the answers that were whole.
     pub fn feed(&mut self, piece: &[u8]) -> Result<Fed, NoMemory>
         ensures says { result ≡ fed_of (state_of self.new) }
-        ensures served { (fed taken : List ℕ) → WasFed S.told self.old fed taken → WasFed S.told self.new (fed_with (state_of self.old) fed piece.now) taken }
+        ensures served { (fed taken : List ℕ) → WasFed S.told self.old fed taken
+            → WasFed S.told self.new (fed_with (state_of self.old) fed piece.now) taken }
         ensures stays { state_of self.old ≢ ConnectionState.Going → self.new ≡ self.old }
-        ensures leaves { state_of self.old ≡ ConnectionState.Going → FeedLeaves (state_of self.new) }
+        ensures leaves { state_of self.old ≡ ConnectionState.Going
+            → FeedLeaves (state_of self.new) }
         ensures grows { Grows (output_of self.old) (output_of self.new) }
     {
         match self.state {
@@ -201,12 +204,15 @@ impl<S: Service> Connection<S> {
     /// No more octets come: what came of a request that isn't whole is a fault.
     pub fn end(&mut self) -> Result<(), NoMemory>
         ensures says { result ≡ ended_of (state_of self.new) }
-        ensures served { (fed taken : List ℕ) → WasFed S.told self.old fed taken → WasFed S.told self.new fed taken }
+        ensures served { (fed taken : List ℕ) → WasFed S.told self.old fed taken
+            → WasFed S.told self.new fed taken }
         ensures leaves { state_of self.old ≡ ConnectionState.Going → EndLeaves (state_of self.new) }
         ensures grows { Grows (output_of self.old) (output_of self.new) }
 
         // The output taken and ready is all replies to what was fed.
-        ensures replies { OnOk result (state_of self.old ≢ ConnectionState.Drained → (fed taken : List ℕ) → WasFed S.told self.old fed taken → IfSome S.told (λ f. IsReplies f fed (taken ++ output_of self.new))) }
+        ensures replies { OnOk result (state_of self.old ≢ ConnectionState.Drained
+            → (fed taken : List ℕ) → WasFed S.told self.old fed taken
+            → IfSome S.told (λ f. IsReplies f fed (taken ++ output_of self.new))) }
         ensures stays { state_of self.old ≢ ConnectionState.Going → self.new ≡ self.old }
         ensures service { service_of self.new ≡ service_of self.old }
     {
@@ -236,7 +242,8 @@ impl<S: Service> Connection<S> {
     /// No further request is answered. Takes no memory.
     pub fn drain(&mut self)
         ensures state { state_of self.new ≡ drained_of (state_of self.old) }
-        ensures served { (fed taken : List ℕ) → WasFed S.told self.old fed taken → WasFed S.told self.new fed taken }
+        ensures served { (fed taken : List ℕ) → WasFed S.told self.old fed taken
+            → WasFed S.told self.new fed taken }
         ensures output { output_of self.new ≡ output_of self.old }
         ensures service { service_of self.new ≡ service_of self.old }
     {
@@ -253,7 +260,8 @@ impl<S: Service> Connection<S> {
     pub fn take_output(&mut self) -> Bytes
         ensures output { result ≡ output_of self.old }
         ensures taken { output_of self.new ≡ [] }
-        ensures served { (fed taken : List ℕ) → WasFed S.told self.old fed taken → WasFed S.told self.new fed (taken ++ result) }
+        ensures served { (fed taken : List ℕ) → WasFed S.told self.old fed taken
+            → WasFed S.told self.new fed (taken ++ result) }
         ensures state { state_of self.new ≡ state_of self.old }
         ensures service { service_of self.new ≡ service_of self.old }
     {

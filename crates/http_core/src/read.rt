@@ -81,7 +81,8 @@ pub fn skip_pairs(bytes: &[u8]) -> &[u8]
 fn read_sized(head: Head, mut lengths: Lengths, piece: &[u8]) -> Result<RequestRead, NoMemory>
     requires { lengths.phase ≡ Phase.Going }
     ensures ready { IfOk result IsReadyRead }
-    ensures steps { IfOk result (λ step. framing_of head ≡ framings.Length lengths.size → (behind : List ℕ) → lengths.body ≡ behind → BodyReadsOn head behind piece.now step) }
+    ensures steps { IfOk result (λ step. framing_of head ≡ framings.Length lengths.size
+        → (behind : List ℕ) → lengths.body ≡ behind → BodyReadsOn head behind piece.now step) }
 {
     match lengths.feed(piece)? {
         Frame::More => Ok(RequestRead::More(Part::Sized(head, lengths))),
@@ -97,7 +98,8 @@ fn read_sized(head: Head, mut lengths: Lengths, piece: &[u8]) -> Result<RequestR
 fn read_chunked(head: Head, mut chunks: Chunks, piece: &[u8]) -> Result<RequestRead, NoMemory>
     requires { chunks.phase ≡ Phase.Going }
     ensures ready { IfOk result IsReadyRead }
-    ensures steps { IfOk result (λ step. framing_of head ≡ framings.Chunked → (behind : List ℕ) → IsFed chunks behind → BodyReadsOn head behind piece.now step) }
+    ensures steps { IfOk result (λ step. framing_of head ≡ framings.Chunked → (behind : List ℕ)
+        → IsFed chunks behind → BodyReadsOn head behind piece.now step) }
 {
     match chunks.feed(piece)? {
         Frame::More => Ok(RequestRead::More(Part::Chunked(head, chunks))),
@@ -137,7 +139,8 @@ fn read_behind(
 // Reads a request whose head may be whole.
 fn read_front(alloc: Global, spare: &mut Spare, bytes: &[u8]) -> Result<Opening, NoMemory>
     ensures ready { IfOk result IsReadyOpening }
-    ensures opens { IfOk result (λ opening. (from : ℕ) → NoHeadWithin from bytes.now → Opens from bytes.now opening) }
+    ensures opens { IfOk result (λ opening. (from : ℕ) → NoHeadWithin from bytes.now
+        → Opens from bytes.now opening) }
 {
     match fill_head(alloc, &mut spare.head, bytes)? {
         HeadFill::More => Ok(Opening::Head),
@@ -161,7 +164,8 @@ fn begin_line(
     from: usize,
 ) -> Result<Opening, NoMemory>
     ensures ready { IfOk result IsReadyOpening }
-    ensures begins { IfOk result (λ opening. NoStopWithin from bytes.now → Begins from bytes.now opening) }
+    ensures begins { IfOk result (λ opening. NoStopWithin from bytes.now
+        → Begins from bytes.now opening) }
 {
     if bytes.len() >= MAX_OCTETS {
         return read_front(alloc, spare, bytes);
@@ -180,7 +184,8 @@ fn begin_head(
     from: usize,
 ) -> Result<Opening, NoMemory>
     ensures ready { IfOk result IsReadyOpening }
-    ensures begins { IfOk result (λ opening. HasStart bytes.now → NoHeadWithin from bytes.now → Begins from bytes.now opening) }
+    ensures begins { IfOk result (λ opening. HasStart bytes.now → NoHeadWithin from bytes.now
+        → Begins from bytes.now opening) }
 {
     if bytes.len() < MAX_OCTETS {
         if !brings_head(bytes, from) {
@@ -203,7 +208,8 @@ fn behind_head(bytes: &[u8], len: usize) -> &[u8]
 /// Reads a request of which nothing came before but CRLF pairs.
 pub fn open(alloc: Global, spare: &mut Spare, piece: &[u8]) -> Result<RequestRead, NoMemory>
     ensures ready { IfOk result IsReadyRead }
-    ensures steps { IfOk result (λ step. (bytes : List ℕ) → skip_pairs bytes ≡ [] → ReadsOn bytes piece.now step) }
+    ensures steps { IfOk result (λ step. (bytes : List ℕ) → skip_pairs bytes ≡ []
+        → ReadsOn bytes piece.now step) }
     ensures some { IfOk result (TakesSome piece.now) }
 {
     let octets = skip_pairs(piece);
@@ -229,7 +235,8 @@ fn read_in_line(
     piece: &[u8],
 ) -> Result<RequestRead, NoMemory>
     ensures ready { IfOk result IsReadyRead }
-    ensures steps { IfOk result (λ step. (bytes : List ℕ) → IsReading (Part.Line octets) bytes → ReadsOn bytes piece.now step) }
+    ensures steps { IfOk result (λ step. (bytes : List ℕ) → IsReading (Part.Line octets) bytes
+        → ReadsOn bytes piece.now step) }
 {
     if octets.is_empty() {
         return open(alloc, spare, piece);
@@ -259,7 +266,8 @@ fn read_in_head(
     piece: &[u8],
 ) -> Result<RequestRead, NoMemory>
     ensures ready { IfOk result IsReadyRead }
-    ensures steps { IfOk result (λ step. (bytes : List ℕ) → IsReading (Part.Head octets) bytes → ReadsOn bytes piece.now step) }
+    ensures steps { IfOk result (λ step. (bytes : List ℕ) → IsReading (Part.Head octets) bytes
+        → ReadsOn bytes piece.now step) }
 {
     let from = octets.len();
     octets.extend(piece)?;
@@ -278,7 +286,8 @@ fn read_in_head(
 // head may have.
 fn read_in_crowd(len: usize, piece: &[u8]) -> RequestRead
     ensures ready { IsReadyRead result }
-    ensures steps { (bytes : List ℕ) → IsReading (Part.Crowded len) bytes → ReadsOn bytes piece.now result }
+    ensures steps { (bytes : List ℕ) → IsReading (Part.Crowded len) bytes
+        → ReadsOn bytes piece.now result }
 {
     if len >= MAX_OCTETS {
         return RequestRead::Fault(400);
@@ -298,7 +307,8 @@ pub fn read_on(
 ) -> Result<RequestRead, NoMemory>
     requires { phase_of part ≡ Phase.Going }
     ensures ready { IfOk result IsReadyRead }
-    ensures steps { IfOk result (λ step. (bytes : List ℕ) → IsReading part bytes → ReadsOn bytes piece.now step) }
+    ensures steps { IfOk result (λ step. (bytes : List ℕ) → IsReading part bytes
+        → ReadsOn bytes piece.now step) }
 {
     match part {
         Part::Line(octets) => read_in_line(alloc, spare, octets, piece),

@@ -118,7 +118,8 @@ fn push_body(
     request: &Request,
     answer: &Answer,
 ) -> Result<(), NoMemory>
-    ensures ok { OnOk result (out.new ≡ out.old ++ body_text request.now.head.method request.now.head.minor answer.now) }
+    ensures ok { OnOk result (out.new ≡ out.old
+        ++ body_text request.now.head.method request.now.head.minor answer.now) }
     ensures err { OnErr result (take (length out.old) out.new ≡ out.old) }
 {
     let method = request.head.method.as_slice();

@@ -56,7 +56,8 @@ impl Chunks {
     /// Takes the next piece of the body. After want of memory it takes no more.
     pub fn feed(&mut self, piece: &[u8]) -> Result<Frame, NoMemory>
         requires { self.old.phase ≡ Phase.Going }
-        ensures answer { IfOk result (λ frame. (bytes : List ℕ) → IsFed self.old bytes → Answers bytes piece.now self.new frame) }
+        ensures answer { IfOk result (λ frame. (bytes : List ℕ) → IsFed self.old bytes
+            → Answers bytes piece.now self.new frame) }
         ensures phase { IfOk result (λ frame. self.new.phase ≡ phase_after frame) }
         ensures err { OnErr result (self.new.phase ≡ Phase.Over) }
     {
@@ -86,10 +87,13 @@ impl Chunks {
 
 /// Octets begin with at most one body, whatever follows it.
 pub fn one_body()
-    ensures { (bytes more body other : List ℕ) (trailer fields : List Field) (rest behind : List ℕ) → Body bytes body trailer rest → Body (bytes ++ more) other fields behind → (body ≡ other) × (trailer ≡ fields) × (behind ≡ rest ++ more) }
+    ensures { (bytes more body other : List ℕ) (trailer fields : List Field) (rest behind : List ℕ)
+        → Body bytes body trailer rest → Body (bytes ++ more) other fields behind → (body ≡ other)
+        × (trailer ≡ fields) × (behind ≡ rest ++ more) }
 {}
 
 /// A body stays one, whatever follows it.
 pub fn body_stays()
-    ensures { (bytes more body : List ℕ) (trailer : List Field) (rest : List ℕ) → Body bytes body trailer rest → Body (bytes ++ more) body trailer (rest ++ more) }
+    ensures { (bytes more body : List ℕ) (trailer : List Field) (rest : List ℕ)
+        → Body bytes body trailer rest → Body (bytes ++ more) body trailer (rest ++ more) }
 {}

@@ -55,7 +55,8 @@ impl Lengths {
     /// Takes the next piece of the body. After want of memory it takes no more.
     pub fn feed(&mut self, piece: &[u8]) -> Result<Frame, NoMemory>
         requires { self.old.phase ≡ Phase.Going }
-        ensures answer { IfOk result (λ frame. (bytes : List ℕ) → IsFilledWith self.old bytes → Fills bytes piece.now self.new frame) }
+        ensures answer { IfOk result (λ frame. (bytes : List ℕ) → IsFilledWith self.old bytes
+            → Fills bytes piece.now self.new frame) }
         ensures phase { IfOk result (λ frame. self.new.phase ≡ phase_after frame) }
         ensures size { self.new.size ≡ self.old.size }
         ensures err { OnErr result (self.new.phase ≡ Phase.Over) }

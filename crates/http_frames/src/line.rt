@@ -65,7 +65,8 @@ fn value_of(digits: &[u8]) -> u64
 /// The number that a line, without its CRLF, begins with, or one too large where it is larger.
 /// None where no chunk begins with such a line.
 pub fn line_size(line: &[u8]) -> Option<u64>
-    ensures sized { IfSome result (λ size. IsTrue (is_size_line line.now) × (size ≡ min (size_of line.now) (MAX_BODY + 1))) }
+    ensures sized { IfSome result (λ size. IsTrue (is_size_line line.now)
+        × (size ≡ min (size_of line.now) (MAX_BODY + 1))) }
     ensures no_size { IfNone result (is_size_line line.now ≡ false) }
 {
     let count = digit_count(line);

@@ -4,7 +4,9 @@ ghost use Rattle.http_frames.specs.Chunks.{NoCr};
 ghost use Rattle.http_frames.specs.Pieces.{IsWholeChunk};
 
 use crate::line::{MAX_LINE, line_size};
-use http_heads::{Fields, MAX_BODY, MAX_OCTETS, SectionRead, brings_section, front_of, read_section};
+use http_heads::{
+    Fields, MAX_BODY, MAX_OCTETS, SectionRead, brings_section, front_of, read_section,
+};
 use kj_base::{Bytes, NoMemory};
 use std::alloc::Global;
 
@@ -50,7 +52,8 @@ pub struct Reader {
 // Where the first CR stands.
 fn find_cr(bytes: &[u8]) -> Option<usize>
     ensures bound { MatchOption result (NoCr bytes.now) (λ at. at < length bytes.now) }
-    ensures first { MatchOption result (NoCr bytes.now) (λ at. NoCr (take at bytes.now) × (bytes.now ≡ take at bytes.now ++ 13 ∷ drop (at + 1) bytes.now)) }
+    ensures first { MatchOption result (NoCr bytes.now) (λ at. NoCr (take at bytes.now)
+        × (bytes.now ≡ take at bytes.now ++ 13 ∷ drop (at + 1) bytes.now)) }
 {
     match bytes.iter().position(|b| *b == b'\r') {
         Some(at) => Some(at),
@@ -127,7 +130,8 @@ impl Reader {
         requires sound { IsSoundReader self.old }
         requires stage { self.old.stage ≡ Line }
         requires bare { self.old.pending ≡ [] }
-        ensures some { IfOk result (λ taken. IfSome taken (λ n. (0 < n) × ReadsPiece self.old piece.now self.new (Intake.Took n))) }
+        ensures some { IfOk result (λ taken. IfSome taken (λ n. (0 < n)
+            × ReadsPiece self.old piece.now self.new (Intake.Took n))) }
         ensures none { IfOk result (λ taken. IfNone taken (self.new ≡ self.old)) }
     {
         let room = MAX_BODY - self.body.len();

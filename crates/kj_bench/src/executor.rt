@@ -163,11 +163,14 @@ fn submit_in_four<W: Wait + Threads + Sync>(
         rt,
         move || -> (Lane, Lane)
             requires { IsSync W.row × IsIdle executor.now.lock one × IsIdle executor.now.lock two }
-            ensures { IsIdle executor.entry.now.lock result.0.0 × IsIdle executor.entry.now.lock result.1.0 }
+            ensures { IsIdle executor.entry.now.lock result.0.0
+                × IsIdle executor.entry.now.lock result.1.0 }
         { submit_in_two(rt, executor, one, two, way, count, done) },
         move || -> (Lane, Lane)
-            requires { IsSync W.row × IsIdle executor.now.lock three × IsIdle executor.now.lock four }
-            ensures { IsIdle executor.entry.now.lock result.0.0 × IsIdle executor.entry.now.lock result.1.0 }
+            requires { IsSync W.row × IsIdle executor.now.lock three
+                × IsIdle executor.now.lock four }
+            ensures { IsIdle executor.entry.now.lock result.0.0
+                × IsIdle executor.entry.now.lock result.1.0 }
         { submit_in_two(rt, executor, three, four, way, count, done) },
     )
 }
@@ -223,8 +226,10 @@ fn four_beside_target<W: Wait + Threads + Sync>(
     requires left { IsIdle executor.now.lock passes.0.0 × IsIdle executor.now.lock passes.0.1 }
     requires right { IsIdle executor.now.lock passes.1.0 × IsIdle executor.now.lock passes.1.1 }
     ensures target { IsReady executor.now.lock result.0 }
-    ensures left { IsIdle executor.now.lock result.1.0.0.0 × IsIdle executor.now.lock result.1.0.1.0 }
-    ensures right { IsIdle executor.now.lock result.1.1.0.0 × IsIdle executor.now.lock result.1.1.1.0 }
+    ensures left { IsIdle executor.now.lock result.1.0.0.0
+        × IsIdle executor.now.lock result.1.0.1.0 }
+    ensures right { IsIdle executor.now.lock result.1.1.0.0
+        × IsIdle executor.now.lock result.1.1.1.0 }
 {
     join(
         rt,
@@ -233,8 +238,13 @@ fn four_beside_target<W: Wait + Threads + Sync>(
             ensures { IsReady executor.entry.now.lock result }
         { serve_all(rt, executor, target, done, 4) },
         move || -> ((Lane, Lane), (Lane, Lane))
-            requires { IsSync W.row × (IsIdle executor.now.lock passes.0.0 × IsIdle executor.now.lock passes.0.1) × (IsIdle executor.now.lock passes.1.0 × IsIdle executor.now.lock passes.1.1) }
-            ensures { (IsIdle executor.entry.now.lock result.0.0.0 × IsIdle executor.entry.now.lock result.0.1.0) × (IsIdle executor.entry.now.lock result.1.0.0 × IsIdle executor.entry.now.lock result.1.1.0) }
+            requires { IsSync W.row
+                × (IsIdle executor.now.lock passes.0.0 × IsIdle executor.now.lock passes.0.1)
+                × (IsIdle executor.now.lock passes.1.0 × IsIdle executor.now.lock passes.1.1) }
+            ensures { (IsIdle executor.entry.now.lock result.0.0.0
+                × IsIdle executor.entry.now.lock result.0.1.0)
+                × (IsIdle executor.entry.now.lock result.1.0.0
+                × IsIdle executor.entry.now.lock result.1.1.0) }
         { submit_in_four(rt, executor, passes, Way::RoundTrip, count, done) },
     )
 }
@@ -316,8 +326,10 @@ fn batches_beside_target<W: Wait + Threads + Sync>(
     count: u32,
     done: &AtomicU32,
 ) -> (BenchPass, (Vec<BenchPass>, Tally))
-    requires { IsIdleTarget executor.now.lock target × All (λ p. IsIdle executor.now.lock p) passes.items }
-    ensures { IsReady executor.now.lock result.0 × All (λ p. IsIdle executor.now.lock p) result.1.0.items }
+    requires { IsIdleTarget executor.now.lock target
+        × All (λ p. IsIdle executor.now.lock p) passes.items }
+    ensures { IsReady executor.now.lock result.0
+        × All (λ p. IsIdle executor.now.lock p) result.1.0.items }
 {
     join(
         rt,

@@ -146,7 +146,8 @@ pub(crate) fn read_one(
     head: &mut Head,
     text: &[u8],
 ) -> Result<Done, NoMemory>
-    ensures { IfOk result (λ done. (done.items ≤ 1) × (done.octets ≡ done.items * length text.now)) }
+    ensures { IfOk result (λ done. (done.items ≤ 1)
+        × (done.octets ≡ done.items * length text.now)) }
 {
     if is_read(alloc, way, head, text)? {
         Ok(whole(text))

@@ -196,7 +196,8 @@ fn feed(chunks: &mut Chunks, piece: &[u8]) -> Result<Frame, NoMemory>
 }
 
 fn read_body(alloc: Global, text: &[u8], piece: usize) -> Result<Done, NoMemory>
-    ensures { IfOk result (λ done. (done.items ≤ 1) × (done.octets ≡ done.items * length text.now)) }
+    ensures { IfOk result (λ done. (done.items ≤ 1)
+        × (done.octets ≡ done.items * length text.now)) }
 {
     let mut chunks = Chunks::new(alloc);
     let mut rest = text;
@@ -227,7 +228,8 @@ pub(crate) fn round(
     work: Work,
     text: &[u8],
 ) -> Result<Done, NoMemory>
-    ensures { IfOk result (λ done. (done.items ≤ 1) × (done.octets ≡ done.items * length text.now)) }
+    ensures { IfOk result (λ done. (done.items ≤ 1)
+        × (done.octets ≡ done.items * length text.now)) }
 {
     match work {
         Work::Head { way, .. } => read_one(alloc, way, head, text),

@@ -144,8 +144,10 @@ fn all_alone(alloc: Global, size: usize) -> Result<Vec<Link>, NoMemory>
 fn join(links: &mut Vec<Link>, left: u32, right: u32)
     requires left { left < length links.old.items }
     requires right { right < length links.old.items }
-    ensures next { (x : ℕ) → next_of links.new.items x ≡ redirected left right (next_of links.old.items) x }
-    ensures previous { (x : ℕ) → previous_of links.new.items x ≡ redirected right left (previous_of links.old.items) x }
+    ensures next { (x : ℕ)
+        → next_of links.new.items x ≡ redirected left right (next_of links.old.items) x }
+    ensures previous { (x : ℕ)
+        → previous_of links.new.items x ≡ redirected right left (previous_of links.old.items) x }
     ensures size { length links.new.items ≡ length links.old.items }
 {
     links[left as usize].next = right;

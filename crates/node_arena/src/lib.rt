@@ -251,7 +251,8 @@ fn last_of_free(free: &mut Vec<u32>) -> usize
 // A cell has another state.
 fn mark(cells: &mut Vec<Cell>, slot: usize, state: State)
     requires { slot < length cells.old.items }
-    ensures cell { slice_get cells.new.items slot ≡ in_state state (slice_get cells.old.items slot) }
+    ensures cell { slice_get cells.new.items slot
+        ≡ in_state state (slice_get cells.old.items slot) }
     ensures others { KeepsOthers (slice_get cells.old.items) (slice_get cells.new.items) slot }
     ensures size { length cells.new.items ≡ length cells.old.items }
 {
@@ -286,7 +287,8 @@ fn put(cells: &mut Vec<Cell>, slot: usize, node: Node)
 // The node of a cell is replaced.
 fn set_in(cells: &mut Vec<Cell>, slot: usize, node: Node)
     requires { slot < length cells.old.items }
-    ensures cell { slice_get cells.new.items slot ≡ with_node node (slice_get cells.old.items slot) }
+    ensures cell { slice_get cells.new.items slot
+        ≡ with_node node (slice_get cells.old.items slot) }
     ensures others { KeepsOthers (slice_get cells.old.items) (slice_get cells.new.items) slot }
     ensures size { length cells.new.items ≡ length cells.old.items }
 {

@@ -93,7 +93,8 @@ fn cover(cells: &mut Slab<Cell>, key: usize)
 // The same, where there is one.
 fn cover_before(cells: &mut Slab<Cell>, before: Option<Slot>)
     requires { IfSome before (λ slot. ContainsKey cells.old slot.0) }
-    ensures cells { (slot : ℕ) → get cells.new slot ≡ covered_by (slot_number before) slot (get cells.old slot) }
+    ensures cells { (slot : ℕ)
+        → get cells.new slot ≡ covered_by (slot_number before) slot (get cells.old slot) }
     ensures len { slab_len cells.new ≡ slab_len cells.old }
     ensures capacity { cells.new.capacity ≡ cells.old.capacity }
 {
@@ -108,7 +109,8 @@ fn place_in(cells: &mut Slab<Cell>, before: Option<Slot>, node: Node) -> usize
     requires room { HasRoomFor cells.old 1 }
     ensures was_free { covered_by (slot_number before) result (get cells.old result) ≡ None }
     ensures placed { get cells.new result ≡ Some (record { node = node; is_bare = true }) }
-    ensures others { (slot : ℕ) → slot ≢ result → get cells.new slot ≡ covered_by (slot_number before) slot (get cells.old slot) }
+    ensures others { (slot : ℕ) → slot ≢ result
+        → get cells.new slot ≡ covered_by (slot_number before) slot (get cells.old slot) }
     ensures len { slab_len cells.new ≡ slab_len cells.old + 1 }
     ensures below { result < cells.old.capacity }
     ensures capacity { cells.new.capacity ≡ cells.old.capacity }

@@ -28,10 +28,14 @@ impl<P: Sent + Drop, R: Send + Drop> Executor<P, R> {
         requires pass { IsReady self.now.lock pass.old }
         requires fits { P.fits payload step.0 words }
         ensures told { Told self.now.lock pass.old pass.new }
-        ensures gains { IfOk result (λ t. Gains pass.old pass.new (entry (number pass.old) (Submit step words) (Reply.Ticket (request t)))) }
+        ensures gains { IfOk result
+            (λ t. Gains pass.old pass.new
+            (entry (number pass.old) (Submit step words) (Reply.Ticket (request t)))) }
         ensures holds { IfOk result (λ t. Holds pass.new t) }
         ensures fresh { IfOk result (λ t. times (is_submit (request t)) (mine pass.old) ≡ 0) }
-        ensures err { IfErr result (λ e. Stays pass.old pass.new (Submit step words) (refusal_reply e.0) × (e.1 ≡ payload)) }
+        ensures err { IfErr result
+            (λ e. Stays pass.old pass.new (Submit step words) (refusal_reply e.0)
+            × (e.1 ≡ payload)) }
     {
         let caller = pass.number();
         let owner = pass.owner();
@@ -64,7 +68,8 @@ impl<P: Sent + Drop, R: Send + Drop> Executor<P, R> {
         requires pass { IsReady self.now.lock pass.old }
         requires holds { Holds pass.old ticket }
         ensures told { Told self.now.lock pass.old pass.new }
-        ensures answer { CancelTells P.fits (Gains pass.old pass.new) (Stays pass.old pass.new) (Holds pass.new) (board_seen pass.new) (number pass.old) ticket result }
+        ensures answer { CancelTells P.fits (Gains pass.old pass.new) (Stays pass.old pass.new)
+            (Holds pass.new) (board_seen pass.new) (number pass.old) ticket result }
     {
         let caller = pass.number();
         let request = ticket.request;
@@ -124,7 +129,8 @@ impl<P: Sent + Drop, R: Send + Drop> Executor<P, R> {
         requires pass { IsReady self.now.lock pass.old }
         requires holds { Holds pass.old ticket }
         ensures told { Told self.now.lock pass.old pass.new }
-        ensures answer { CollectTells P.fits (Gains pass.old pass.new) (Stays pass.old pass.new) (Holds pass.new) (board_seen pass.new) (seen pass.new) (number pass.old) ticket result }
+        ensures answer { CollectTells P.fits (Gains pass.old pass.new) (Stays pass.old pass.new)
+            (Holds pass.new) (board_seen pass.new) (seen pass.new) (number pass.old) ticket result }
         ensures known { EndKnown pass.old (request ticket) → GivesOutcome result }
     {
         let caller = pass.number();

@@ -114,10 +114,14 @@ impl<P: Sent + Drop, R: Send + Drop> Guarded<P, R> {
     ) -> Result<u32, (NotTaken, P)>
         requires { P.fits payload step.0 words }
         ensures sound { Sound self.new }
-        ensures grown { IfOk result (λ r. Grown self.old self.new (entry caller (Submit step words) (Reply.Ticket r))) }
+        ensures grown { IfOk result
+            (λ r. Grown self.old self.new (entry caller (Submit step words) (Reply.Ticket r))) }
         ensures own { IfOk result (λ r. Outstanding (of_caller caller self.new.entries) r) }
-        ensures fresh { IfOk result (λ r. times (is_submit r) (of_caller caller self.old.entries) ≡ 0) }
-        ensures err { IfErr result (λ e. Unchanged self.old self.new caller (Submit step words) (refusal_reply e.0) × (e.1 ≡ payload)) }
+        ensures fresh { IfOk result (λ r. times (is_submit r) (of_caller caller self.old.entries)
+            ≡ 0) }
+        ensures err { IfErr result
+            (λ e. Unchanged self.old self.new caller (Submit step words) (refusal_reply e.0)
+            × (e.1 ≡ payload)) }
     {
         match self.board.submit(caller, step, words.copy()) {
             Ok(request) => {
@@ -135,7 +139,8 @@ impl<P: Sent + Drop, R: Send + Drop> Guarded<P, R> {
 
     pub(crate) fn next(&mut self) -> Next<P>
         ensures sound { Sound self.new }
-        ensures told { NextTells P.fits (Grown self.old self.new) (Unchanged self.old self.new 0) (of_caller 0 self.old.entries) (of_caller 0 self.new.entries) result }
+        ensures told { NextTells P.fits (Grown self.old self.new) (Unchanged self.old self.new 0)
+            (of_caller 0 self.old.entries) (of_caller 0 self.new.entries) result }
     {
         match self.board.next() {
             Chosen::Start {
@@ -184,7 +189,10 @@ impl<P: Sent + Drop, R: Send + Drop> Guarded<P, R> {
     pub(crate) fn cancel(&mut self, caller: u32, ticket: Ticket) -> Cancelled<P>
         requires { Outstanding (of_caller caller self.old.entries) (request ticket) }
         ensures sound { Sound self.new }
-        ensures told { CancelTells P.fits (Grown self.old self.new) (Unchanged self.old self.new caller) (λ t. Outstanding (of_caller caller self.new.entries) (request t)) (board self.new) caller ticket result }
+        ensures told { CancelTells P.fits (Grown self.old self.new)
+            (Unchanged self.old self.new caller)
+            (λ t. Outstanding (of_caller caller self.new.entries) (request t))
+            (board self.new) caller ticket result }
     {
         let Ticket { request, owner } = ticket;
         match self.board.cancel(request) {
@@ -212,7 +220,10 @@ impl<P: Sent + Drop, R: Send + Drop> Guarded<P, R> {
     pub(crate) fn collect(&mut self, caller: u32, ticket: Ticket) -> Collected<P, R>
         requires { Outstanding (of_caller caller self.old.entries) (request ticket) }
         ensures sound { Sound self.new }
-        ensures told { CollectTells P.fits (Grown self.old self.new) (Unchanged self.old self.new caller) (λ t. Outstanding (of_caller caller self.new.entries) (request t)) (board self.new) self.new.entries caller ticket result }
+        ensures told { CollectTells P.fits (Grown self.old self.new)
+            (Unchanged self.old self.new caller)
+            (λ t. Outstanding (of_caller caller self.new.entries) (request t))
+            (board self.new) self.new.entries caller ticket result }
     {
         let Ticket { request, owner } = ticket;
         match self.board.collect(request) {

@@ -22,7 +22,8 @@ impl<P: Sent + Drop, R: Send + Drop> Executor<P, R> {
     ) -> Result<(Executor<P, R>, ExecutorPass<P, R>), NoMemory>
         requires { (1 ≤ requests) × (requests ≤ MAX_REQUESTS) }
         ensures ready { IfOk result (λ r. IsReady r.0.lock r.1) }
-        ensures target { IfOk result (λ r. (constant r.1 ≡ requests) × (number r.1 ≡ 0) × IsUnsplit r.1) }
+        ensures target { IfOk result (λ r. (constant r.1 ≡ requests) × (number r.1 ≡ 0)
+            × IsUnsplit r.1) }
         ensures empty { IfOk result (λ r. (seen r.1 ≡ []) × (mine r.1 ≡ []) × (kin r.1 ≡ [])) }
     {
         let guarded = Guarded::new(alloc, requests)?;
@@ -36,13 +37,18 @@ impl<P: Sent + Drop, R: Send + Drop> Executor<P, R> {
     pub fn split(&self, pass: &mut ExecutorPass<P, R>) -> Result<ExecutorPass<P, R>, SplitRefused>
         requires { IsReady self.now.lock pass.old }
         ensures ready { IsReady self.now.lock pass.new × (number pass.new ≡ number pass.old) }
-        ensures same { (seen pass.new ≡ seen pass.old) × (mine pass.new ≡ mine pass.old) × (kin pass.new ≡ kin pass.old) }
-        ensures ok { IfOk result (λ p. IsReady self.now.lock p × (number p ≡ first_spare pass.old)) }
+        ensures same { (seen pass.new ≡ seen pass.old) × (mine pass.new ≡ mine pass.old)
+            × (kin pass.new ≡ kin pass.old) }
+        ensures ok { IfOk result (λ p. IsReady self.now.lock p
+            × (number p ≡ first_spare pass.old)) }
         ensures made { IfOk result (λ p. (seen p ≡ seen pass.old) × (mine p ≡ []) × (kin p ≡ [])) }
-        ensures spare { IfOk result (λ p. (first_spare pass.new ≡ first_spare pass.old + 1) × (end_spare pass.new ≡ first_spare p) × (end_spare p ≡ end_spare pass.old)
+        ensures spare { IfOk result (λ p. (first_spare pass.new ≡ first_spare pass.old + 1)
+            × (end_spare pass.new ≡ first_spare p) × (end_spare p ≡ end_spare pass.old)
             × (first_spare p + (end_spare pass.old - first_spare pass.old - 1) / 2 ≡ end_spare pass.old)) }
-        ensures accounts { IfOk result (λ p. Accounts caller_of pass.new (seen pass.new) × Accounts caller_of p (seen p)) }
-        ensures err { IfErr result (λ _. (first_spare pass.old ≡ end_spare pass.old) × IsSamePass pass.old pass.new) }
+        ensures accounts { IfOk result (λ p. Accounts caller_of pass.new (seen pass.new)
+            × Accounts caller_of p (seen p)) }
+        ensures err { IfErr result (λ _. (first_spare pass.old ≡ end_spare pass.old)
+            × IsSamePass pass.old pass.new) }
     {
         self.lock.split(pass)
     }
@@ -56,7 +62,8 @@ impl<P: Sent + Drop, R: Send + Drop> Executor<P, R> {
         ensures ready { IsReady self.now.lock into.new }
         ensures same { IsSamePass into.old into.new × (mine into.new ≡ mine into.old) }
         ensures kin { kin into.new ≡ family_of from ++ kin into.old }
-        ensures seen { (seen into.new ≡ longer (seen into.old) (seen from)) × StartsWith (seen into.new) (seen into.old) × StartsWith (seen into.new) (seen from) }
+        ensures seen { (seen into.new ≡ longer (seen into.old) (seen from))
+            × StartsWith (seen into.new) (seen into.old) × StartsWith (seen into.new) (seen from) }
         ensures accounts { Accounts caller_of into.new (seen into.new) }
     {
         self.lock.join(into, from);
@@ -70,7 +77,8 @@ impl<P: Sent + Drop, R: Send + Drop> Executor<P, R> {
         ensures mine { of caller_of (number pass) result ≡ mine pass }
         ensures kin { Made caller_of result (kin pass) }
         ensures legal { Legal (constant pass) result }
-        ensures settled { (board_of (constant pass) result).closed ≡ true → Settled (constant pass) result }
+        ensures settled { (board_of (constant pass) result).closed ≡ true
+            → Settled (constant pass) result }
     {
         let Executor { lock } = self;
         lock.close(rt, pass).into_entries()

@@ -22,7 +22,8 @@ pub(crate) fn take_payload<P, R>(places: &mut Vec<Place<P, R>>, request: u32) ->
 
 // The payload or the result that is there.
 pub(crate) fn take_back<P, R>(places: &mut Vec<Place<P, R>>, request: u32) -> Back<P, R>
-    requires { ((p : P) × (slice_get places.old.items request ≡ Some (Waiting p))) ⊎ ((r : R) × (slice_get places.old.items request ≡ Some (Finished r))) }
+    requires { ((p : P) × (slice_get places.old.items request ≡ Some (Waiting p)))
+        ⊎ ((r : R) × (slice_get places.old.items request ≡ Some (Finished r))) }
     ensures back { IsBack (slice_get places.old.items request) result }
     ensures rest { places.new.items ≡ slice_set places.old.items request Away }
     ensures room { vec_capacity places.new ≡ vec_capacity places.old }

@@ -19,7 +19,8 @@ impl<P: Sent + Drop, R: Send + Drop> Executor<P, R> {
         requires pass { IsReady self.now.lock pass.old }
         requires target { number pass.old ≡ 0 }
         ensures told { Told self.now.lock pass.old pass.new }
-        ensures answer { NextTells P.fits (Gains pass.old pass.new) (Stays pass.old pass.new) (mine pass.old) (mine pass.new) result }
+        ensures answer { NextTells P.fits (Gains pass.old pass.new) (Stays pass.old pass.new)
+            (mine pass.old) (mine pass.new) result }
     {
         let mut held = self.take(rt, pass);
         match held.value_mut().next() {
@@ -87,7 +88,8 @@ impl<P: Sent + Drop, R: Send + Drop> Executor<P, R> {
         requires target { number pass.old ≡ 0 }
         requires finished { AllFinished (mine pass.old) }
         ensures told { Told self.now.lock pass.old pass.new }
-        ensures answer { Gains pass.old pass.new (entry 0 Close Done) ⊎ Stays pass.old pass.new Close Done }
+        ensures answer { Gains pass.old pass.new (entry 0 Close Done)
+            ⊎ Stays pass.old pass.new Close Done }
         ensures closed { (board_seen pass.new).closed ≡ true }
         ensures settled { Settled (constant pass.new) (seen pass.new) }
     {

@@ -32,7 +32,8 @@ impl<P: Sent + Drop, R: Send + Drop> Executor<P, R> {
         entry: Entry,
     )
         requires lock { IsPassOf self.now.lock pass.old × HasTurn pass.old }
-        requires value { (held.value.entries ≡ seen pass.old ++ entry ∷ []) × (held.value.limit ≡ constant pass.old) }
+        requires value { (held.value.entries ≡ seen pass.old ++ entry ∷ [])
+            × (held.value.limit ≡ constant pass.old) }
         requires entry { (entry.caller ≡ number pass.old) × (length (seen pass.old) + 1 < 2 ^ 64) }
         requires plain { (d : Desk) (n : ℕ) → ends_by d n entry.call entry.reply ≡ 0 }
         ensures { Noted pass.old pass.new entry }
@@ -48,11 +49,14 @@ impl<P: Sent + Drop, R: Send + Drop> Executor<P, R> {
         entry: Entry,
         request: u32,
     )
-        requires lock { IsPassOf self.now.lock pass.old × HasTurn pass.old × (words_of self.now.lock ≡ constant pass.old) }
-        requires value { (held.value.entries ≡ seen pass.old ++ entry ∷ []) × (held.value.limit ≡ constant pass.old) }
+        requires lock { IsPassOf self.now.lock pass.old × HasTurn pass.old
+            × (words_of self.now.lock ≡ constant pass.old) }
+        requires value { (held.value.entries ≡ seen pass.old ++ entry ∷ [])
+            × (held.value.limit ≡ constant pass.old) }
         requires entry { (entry.caller ≡ number pass.old) × (length (seen pass.old) + 1 < 2 ^ 64) }
         requires legal { Legal (constant pass.old) (seen pass.old ++ entry ∷ []) }
-        requires ends { (d : Desk) (n : ℕ) → ends_by d n entry.call entry.reply ≡ cond (request == n) 1 0 }
+        requires ends { (d : Desk) (n : ℕ)
+            → ends_by d n entry.call entry.reply ≡ cond (request == n) 1 0 }
         ensures { Noted pass.old pass.new entry }
     {
         let noted = held.note(&self.lock, pass, entry);
@@ -63,8 +67,10 @@ impl<P: Sent + Drop, R: Send + Drop> Executor<P, R> {
 
     // Ends the turn with the closing, which ends each request that waits for its start.
     pub(crate) fn note_close(&self, held: Held<Guarded<P, R>>, pass: &mut ExecutorPass<P, R>)
-        requires lock { IsPassOf self.now.lock pass.old × HasTurn pass.old × (words_of self.now.lock ≡ constant pass.old) }
-        requires value { (held.value.entries ≡ seen pass.old ++ entry 0 Close Done ∷ []) × (held.value.limit ≡ constant pass.old) }
+        requires lock { IsPassOf self.now.lock pass.old × HasTurn pass.old
+            × (words_of self.now.lock ≡ constant pass.old) }
+        requires value { (held.value.entries ≡ seen pass.old ++ entry 0 Close Done ∷ [])
+            × (held.value.limit ≡ constant pass.old) }
         requires target { (number pass.old ≡ 0) × (length (seen pass.old) + 1 < 2 ^ 64) }
         requires legal { Legal (constant pass.old) (seen pass.old ++ entry 0 Close Done ∷ []) }
         ensures { Noted pass.old pass.new (entry 0 Close Done) }
@@ -87,7 +93,8 @@ impl<P: Sent + Drop, R: Send + Drop> Executor<P, R> {
     // Ends the turn with nothing changed.
     pub(crate) fn leave(&self, held: Held<Guarded<P, R>>, pass: &mut ExecutorPass<P, R>)
         requires lock { IsPassOf self.now.lock pass.old × HasTurn pass.old }
-        requires value { (held.value.entries ≡ seen pass.old) × (held.value.limit ≡ constant pass.old) }
+        requires value { (held.value.entries ≡ seen pass.old)
+            × (held.value.limit ≡ constant pass.old) }
         ensures { Left pass.old pass.new }
     {
         held.release_unchanged(&self.lock, pass)
