@@ -104,7 +104,8 @@ impl Chain {
 
     fn link_left(&mut self, before: usize, after: usize)
         requires { before ≤ length self.old.after.items }
-        ensures left { LinksLeft before after self.old.first self.new.first self.old.after.items self.new.after.items }
+        ensures left { LinksLeft before after self.old.first self.new.first
+            self.old.after.items self.new.after.items }
         ensures rest { (self.new.end ≡ self.old.end) × (self.new.bound ≡ self.old.bound)
             × (self.new.before.items ≡ self.old.before.items) }
     {
@@ -117,7 +118,8 @@ impl Chain {
 
     fn link_right(&mut self, before: usize, after: usize)
         requires { (after ≤ self.old.bound) × (self.old.bound ≤ length self.old.before.items) }
-        ensures right { LinksRight before after self.old.bound self.old.end self.new.end self.old.before.items self.new.before.items }
+        ensures right { LinksRight before after self.old.bound self.old.end self.new.end
+            self.old.before.items self.new.before.items }
         ensures rest { (self.new.first ≡ self.old.first) × (self.new.bound ≡ self.old.bound)
             × (self.new.after.items ≡ self.old.after.items) }
     {

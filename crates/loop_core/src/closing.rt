@@ -19,8 +19,12 @@ fn close_tree<S: Steps>(engine: &mut Engine, root: u64, steps: &mut S, freed: &m
     requires kept { IsKept engine.old }
     requires room { engine.old.limits.slots ≤ vec_capacity freed.old }
     requires few { HasFreed engine.old.limits.slots engine.old.nodes.items freed.old.items }
-    ensures falls { Falls (reverse (tree_path (engine.old.limits.slots + 1) root engine.old.nodes.items)) engine.old engine.new (S.told steps.old) (S.told steps.new) }
-    ensures listed { freed.new.items ≡ freed.old.items ++ map node_id (reverse (tree_path (engine.old.limits.slots + 1) root engine.old.nodes.items)) }
+    ensures falls { Falls
+        (reverse (tree_path (engine.old.limits.slots + 1) root engine.old.nodes.items))
+        engine.old engine.new (S.told steps.old) (S.told steps.new) }
+    ensures listed { freed.new.items ≡ freed.old.items
+        ++ map node_id
+        (reverse (tree_path (engine.old.limits.slots + 1) root engine.old.nodes.items)) }
     ensures room { vec_capacity freed.old ≤ vec_capacity freed.new }
     ensures few { HasFreed engine.old.limits.slots engine.new.nodes.items freed.new.items }
     ensures lacks { S.lacks steps.new ≡ S.lacks steps.old }
@@ -72,7 +76,9 @@ fn close_roots<S: Steps>(engine: &mut Engine, roots: &[u64], steps: &mut S, free
     requires kept { IsKept engine.old }
     requires empty { freed.old.items ≡ [] }
     requires room { engine.old.limits.slots ≤ vec_capacity freed.old }
-    ensures closed { Closed (closed_nodes (engine.old.limits.slots + 1) roots.now engine.old.nodes.items) freed.new.items (S.told steps.old) (S.told steps.new) }
+    ensures closed { Closed
+        (closed_nodes (engine.old.limits.slots + 1) roots.now engine.old.nodes.items)
+        freed.new.items (S.told steps.old) (S.told steps.new) }
     ensures lacks { S.lacks steps.new ≡ S.lacks steps.old }
 {
     for root in roots {
@@ -92,7 +98,9 @@ pub(crate) fn close<S: Steps>(
     requires room { engine.old.limits.slots ≤ vec_capacity freed.old }
     requires no_roots { roots.old.items ≡ [] }
     requires roots { engine.old.limits.names + engine.old.limits.slots ≤ vec_capacity roots.old }
-    ensures closed { Closed (closed_nodes (engine.old.limits.slots + 1) (closing_roots engine.old) engine.old.nodes.items) freed.new.items (S.told steps.old) (S.told steps.new) }
+    ensures closed { Closed
+        (closed_nodes (engine.old.limits.slots + 1) (closing_roots engine.old)
+        engine.old.nodes.items) freed.new.items (S.told steps.old) (S.told steps.new) }
     ensures lacks { S.lacks steps.new ≡ S.lacks steps.old }
 {
     list_names(&engine.names, roots);

@@ -28,9 +28,11 @@ fn is_full(engine: &Engine) -> bool
 fn build(engine: &mut Engine, form: Form)
     requires kept { IsKept engine.old }
     requires fits { no_node_fits engine.old ≡ false }
-    ensures nodes { engine.new.nodes.items ≡ engine.old.nodes.items ++ record { number = engine.old.next; form = form } ∷ [] }
+    ensures nodes { engine.new.nodes.items ≡ engine.old.nodes.items
+        ++ record { number = engine.old.next; form = form } ∷ [] }
     ensures next { engine.new.next ≡ engine.old.next + 1 }
-    ensures others { engine.new ≡ record engine.old { nodes = engine.new.nodes; next = engine.new.next } }
+    ensures others { engine.new
+        ≡ record engine.old { nodes = engine.new.nodes; next = engine.new.next } }
     ensures roots { KeepsRoots engine.old engine.new }
     ensures room { HasRoom engine.new }
 {
@@ -43,7 +45,9 @@ fn build(engine: &mut Engine, form: Form)
 fn listen(engine: &mut Engine, n: u64)
     requires kept { IsKept engine.old }
     requires room { length engine.old.order.events.items < engine.old.limits.slots }
-    ensures queue { events_of engine.new.order ≡ queue_listened (engine.old.limits.slots + 1) n engine.old.nodes.items (events_of engine.old.order) }
+    ensures queue { events_of engine.new.order
+        ≡ queue_listened (engine.old.limits.slots + 1) n engine.old.nodes.items
+        (events_of engine.old.order) }
     ensures others { engine.new ≡ record engine.old { order = engine.new.order } }
     ensures kept { IsKept engine.new }
 {
@@ -59,7 +63,8 @@ fn listen(engine: &mut Engine, n: u64)
 fn later(engine: &mut Engine, name: Name) -> Result<(), Refused>
     requires kept { IsKept engine.old }
     requires running { engine.old.stopped ≡ false }
-    ensures applied { IsApplied (Later name.0) (world_of engine.old) (world_of engine.new) (refusal_in result) }
+    ensures applied { IsApplied (Later name.0) (world_of engine.old) (world_of engine.new)
+        (refusal_in result) }
     ensures others { SameRest engine.old engine.new }
     ensures roots { KeepsRoots engine.old engine.new }
     ensures kept { IsKept engine.new }
@@ -97,7 +102,8 @@ fn then(
 ) -> Result<(), Refused>
     requires kept { IsKept engine.old }
     requires running { engine.old.stopped ≡ false }
-    ensures applied { IsApplied (Then name.0 source.0 value error) (world_of engine.old) (world_of engine.new) (refusal_in result) }
+    ensures applied { IsApplied (Then name.0 source.0 value error) (world_of engine.old)
+        (world_of engine.new) (refusal_in result) }
     ensures others { SameRest engine.old engine.new }
     ensures roots { KeepsRoots engine.old engine.new }
     ensures kept { IsKept engine.new }
@@ -122,7 +128,8 @@ fn then(
 fn detach(engine: &mut Engine, source: Name) -> Result<(), Refused>
     requires kept { IsKept engine.old }
     requires running { engine.old.stopped ≡ false }
-    ensures applied { IsApplied (Detach source.0) (world_of engine.old) (world_of engine.new) (refusal_in result) }
+    ensures applied { IsApplied (Detach source.0) (world_of engine.old) (world_of engine.new)
+        (refusal_in result) }
     ensures others { SameRest engine.old engine.new }
     ensures roots { KeepsRoots engine.old engine.new }
     ensures kept { IsKept engine.new }
@@ -144,7 +151,8 @@ fn detach(engine: &mut Engine, source: Name) -> Result<(), Refused>
 pub(crate) fn apply_command(engine: &mut Engine, command: &Command) -> Result<(), Refused>
     requires kept { IsKept engine.old }
     requires running { engine.old.stopped ≡ false }
-    ensures applied { IsApplied (command_of command.now) (world_of engine.old) (world_of engine.new) (refusal_in result) }
+    ensures applied { IsApplied (command_of command.now) (world_of engine.old) (world_of engine.new)
+        (refusal_in result) }
     ensures others { SameRest engine.old engine.new }
     ensures roots { KeepsRoots engine.old engine.new }
     ensures kept { IsKept engine.new }
@@ -165,7 +173,8 @@ pub(crate) fn apply_command(engine: &mut Engine, command: &Command) -> Result<()
 pub(crate) fn apply_all(engine: &mut Engine, commands: &[Command]) -> bool
     requires kept { IsKept engine.old }
     requires running { engine.old.stopped ≡ false }
-    ensures applied { AreApplied (map command_of commands.now) (world_of engine.old) (world_of engine.new) result }
+    ensures applied { AreApplied (map command_of commands.now) (world_of engine.old)
+        (world_of engine.new) result }
     ensures others { SameRest engine.old engine.new }
     ensures roots { KeepsRoots engine.old engine.new }
     ensures kept { IsKept engine.new }

@@ -63,7 +63,9 @@ pub(crate) fn drop_node<S: Steps>(engine: &mut Engine, n: u64, steps: &mut S)
 // A tree goes, dependencies first.
 pub(crate) fn free_tree<S: Steps>(engine: &mut Engine, root: u64, steps: &mut S)
     requires { IsKept engine.old }
-    ensures falls { Falls (reverse (tree_path (engine.old.limits.slots + 1) root engine.old.nodes.items)) engine.old engine.new (S.told steps.old) (S.told steps.new) }
+    ensures falls { Falls
+        (reverse (tree_path (engine.old.limits.slots + 1) root engine.old.nodes.items))
+        engine.old engine.new (S.told steps.old) (S.told steps.new) }
     ensures lacks { S.lacks steps.new ≡ S.lacks steps.old }
 {
     let depth = engine.depth();

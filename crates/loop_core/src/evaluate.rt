@@ -44,7 +44,8 @@ fn ended(ending: &Ending, input: Outcome) -> Outcome
 fn act(engine: &mut Engine, action: &Action, input: Outcome) -> Outcome
     requires kept { IsKept engine.old }
     requires running { engine.old.stopped ≡ false }
-    ensures acted { IsActed (action_of action.now) input (world_of engine.old) (world_of engine.new) result }
+    ensures acted { IsActed (action_of action.now) input (world_of engine.old)
+        (world_of engine.new) result }
     ensures others { SameRest engine.old engine.new }
     ensures roots { KeepsRoots engine.old engine.new }
     ensures kept { IsKept engine.new }
@@ -66,7 +67,8 @@ fn run_step<S: Steps>(
 ) -> Result<Outcome, NoMemory>
     requires kept { IsKept engine.old }
     requires running { engine.old.stopped ≡ false }
-    ensures gives { Gives (step_run n (Some step) input) (world_of engine.old) (world_of engine.new) (S.told steps.old) (S.told steps.new) result }
+    ensures gives { Gives (step_run n (Some step) input) (world_of engine.old) (world_of engine.new)
+        (S.told steps.old) (S.told steps.new) result }
     ensures stopped { engine.new.stopped ≡ is_err result }
     ensures lacks { HasLacked (is_err result) (S.lacks steps.old) (S.lacks steps.new) }
     ensures others { SameFrames engine.old engine.new }
@@ -102,7 +104,8 @@ fn pass_step<S: Steps>(
 ) -> Result<Outcome, NoMemory>
     requires kept { IsKept engine.old }
     requires running { engine.old.stopped ≡ false }
-    ensures gives { Gives (step_run n step input) (world_of engine.old) (world_of engine.new) (S.told steps.old) (S.told steps.new) result }
+    ensures gives { Gives (step_run n step input) (world_of engine.old) (world_of engine.new)
+        (S.told steps.old) (S.told steps.new) result }
     ensures stopped { engine.new.stopped ≡ is_err result }
     ensures lacks { HasLacked (is_err result) (S.lacks steps.old) (S.lacks steps.new) }
     ensures others { SameFrames engine.old engine.new }
@@ -119,7 +122,8 @@ fn pass_step<S: Steps>(
 fn clear_tree(engine: &mut Engine, frame: Frame)
     requires kept { IsKept engine.old }
     requires node { RootFits engine.old.nodes.items engine.old.next frame.node }
-    ensures nodes { engine.new.nodes.items ≡ nodes_changed frame.node (Form.Then frame.value frame.error None) engine.old.nodes.items }
+    ensures nodes { engine.new.nodes.items
+        ≡ nodes_changed frame.node (Form.Then frame.value frame.error None) engine.old.nodes.items }
     ensures others { engine.new ≡ record engine.old { nodes = engine.new.nodes } }
     ensures roots { KeepsRoots engine.old engine.new }
     ensures kept { IsKept engine.new }
@@ -142,7 +146,8 @@ fn close_frame<S: Steps>(
     requires kept { IsKept engine.old }
     requires running { engine.old.stopped ≡ false }
     requires fits { FrameFits engine.old.nodes.items engine.old.next frame }
-    ensures gives { Gives (λ setting s. rise setting frame (s, Some outcome)) (world_of engine.old) (world_of engine.new) (S.told steps.old) (S.told steps.new) result }
+    ensures gives { Gives (λ setting s. rise setting frame (s, Some outcome)) (world_of engine.old)
+        (world_of engine.new) (S.told steps.old) (S.told steps.new) result }
     ensures stopped { engine.new.stopped ≡ is_err result }
     ensures lacks { HasLacked (is_err result) (S.lacks steps.old) (S.lacks steps.new) }
     ensures others { SameFrames engine.old engine.new }
@@ -164,7 +169,8 @@ pub(crate) fn evaluate<S: Steps>(
     requires kept { IsKept engine.old }
     requires running { engine.old.stopped ≡ false }
     requires root { RootFits engine.old.nodes.items engine.old.next root }
-    ensures gives { Gives (λ setting. value setting root) (world_of engine.old) (world_of engine.new) (S.told steps.old) (S.told steps.new) result }
+    ensures gives { Gives (λ setting. value setting root) (world_of engine.old)
+        (world_of engine.new) (S.told steps.old) (S.told steps.new) result }
     ensures stopped { engine.new.stopped ≡ is_err result }
     ensures lacks { HasLacked (is_err result) (S.lacks steps.old) (S.lacks steps.new) }
     ensures others { SameFixed engine.old engine.new }

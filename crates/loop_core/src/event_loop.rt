@@ -102,7 +102,8 @@ impl Loop {
     pub fn close<S: Steps>(self, steps: &mut S) -> Vec<NodeId>
         ensures told { Tells (S.told steps.old) (frees_of result.items) (S.told steps.new) }
         ensures lacks { S.lacks steps.new ≡ S.lacks steps.old }
-        ensures closed { (t : List Item) (s : State) → Seen self t s → (close s).past ≡ t ++ frees_of result.items }
+        ensures closed { (t : List Item) (s : State) → Seen self t s
+            → (close s).past ≡ t ++ frees_of result.items }
     {
         let Loop {
             mut engine,

@@ -35,7 +35,8 @@ fn run_task<S: Steps>(engine: &mut Engine, n: u64, tree: u64, steps: &mut S)
     requires kept { IsKept engine.old }
     requires running { engine.old.stopped ≡ false }
     requires root { RootFits engine.old.nodes.items engine.old.next tree }
-    ensures does { Does (valued_task n tree) (world_of engine.old) (world_of engine.new) (S.told steps.old) (S.told steps.new) engine.new.stopped }
+    ensures does { Does (valued_task n tree) (world_of engine.old) (world_of engine.new)
+        (S.told steps.old) (S.told steps.new) engine.new.stopped }
     ensures lacks { HasLacked engine.new.stopped (S.lacks steps.old) (S.lacks steps.new) }
     ensures others { SameFixed engine.old engine.new }
     ensures kept { IsKept engine.new }
@@ -51,7 +52,9 @@ fn run_task<S: Steps>(engine: &mut Engine, n: u64, tree: u64, steps: &mut S)
 fn fire_node<S: Steps>(engine: &mut Engine, n: u64, steps: &mut S)
     requires kept { IsKept engine.old }
     requires running { engine.old.stopped ≡ false }
-    ensures does { Does (λ setting s. fire_form setting n (form_at n s.world.nodes) s) (world_of engine.old) (world_of engine.new) (S.told steps.old) (S.told steps.new) engine.new.stopped }
+    ensures does { Does (λ setting s. fire_form setting n (form_at n s.world.nodes) s)
+        (world_of engine.old) (world_of engine.new) (S.told steps.old)
+        (S.told steps.new) engine.new.stopped }
     ensures lacks { HasLacked engine.new.stopped (S.lacks steps.old) (S.lacks steps.new) }
     ensures limits { engine.new.limits ≡ engine.old.limits }
     ensures kept { IsKept engine.new }
@@ -66,7 +69,8 @@ fn fire_node<S: Steps>(engine: &mut Engine, n: u64, steps: &mut S)
 fn fire<S: Steps>(engine: &mut Engine, n: u64, steps: &mut S)
     requires kept { IsKept engine.old }
     requires running { engine.old.stopped ≡ false }
-    ensures does { Does (λ setting. fire setting n) (world_of engine.old) (world_of engine.new) (S.told steps.old) (S.told steps.new) engine.new.stopped }
+    ensures does { Does (λ setting. fire setting n) (world_of engine.old) (world_of engine.new)
+        (S.told steps.old) (S.told steps.new) engine.new.stopped }
     ensures lacks { HasLacked engine.new.stopped (S.lacks steps.old) (S.lacks steps.new) }
     ensures limits { engine.new.limits ≡ engine.old.limits }
     ensures kept { IsKept engine.new }
@@ -78,7 +82,8 @@ fn fire<S: Steps>(engine: &mut Engine, n: u64, steps: &mut S)
 
 pub(crate) fn turn<S: Steps>(engine: &mut Engine, steps: &mut S) -> Turned
     requires kept { IsKept engine.old }
-    ensures turns { Turns (world_of engine.old) (world_of engine.new) (S.told steps.old) (S.told steps.new) result }
+    ensures turns { Turns (world_of engine.old) (world_of engine.new) (S.told steps.old)
+        (S.told steps.new) result }
     ensures stopped { engine.new.stopped ≡ is_stopped result }
     ensures lacks { HasLacked (lacked_memory result) (S.lacks steps.old) (S.lacks steps.new) }
     ensures limits { engine.new.limits ≡ engine.old.limits }

@@ -61,7 +61,8 @@ fn insert_at(names: &mut Vec<Named>, place: usize, named: Named)
 
 pub(crate) fn insert_name(names: &mut Vec<Named>, name: u32, root: u64)
     requires { vec_len names.old < vec_capacity names.old }
-    ensures items { names.new.items ≡ with_named (record { name = name; root = root }) names.old.items }
+    ensures items { names.new.items
+        ≡ with_named (record { name = name; root = root }) names.old.items }
     ensures capacity { vec_capacity names.old ≤ vec_capacity names.new }
 {
     let place = place_of(names, name);

@@ -85,7 +85,8 @@ pub(crate) fn remove_node(nodes: &mut Vec<Node>, n: u64)
 
 pub(crate) fn add_node(nodes: &mut Vec<Node>, number: u64, form: Form)
     requires { vec_len nodes.old < vec_capacity nodes.old }
-    ensures items { nodes.new.items ≡ nodes.old.items ++ record { number = number; form = form } ∷ [] }
+    ensures items { nodes.new.items ≡ nodes.old.items
+        ++ record { number = number; form = form } ∷ [] }
     ensures capacity { vec_capacity nodes.old ≤ vec_capacity nodes.new }
 {
     let _ = nodes.push(Node { number, form });
