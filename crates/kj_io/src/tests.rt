@@ -65,7 +65,7 @@ fn system_readers_and_writers(rt: HostRuntime) -> Result<(), Fail> {
     Ok(())
 }
 
-/// A job that doubles its number.
+// A job that doubles its number.
 #[derive(Drop)]
 struct Doubling(u32);
 

@@ -31,7 +31,8 @@ pub fn read_name(word: &[u8]) -> Option<Name>
 /// A step's number, or `-` for none.
 pub fn read_step(word: &[u8]) -> Option<Option<StepId>>
     ensures found { IfSome result (λ step. word.now ≡ step_word step) }
-    ensures none { IfNone result ((step : Option StepId) → StepFits step → word.now ≡ step_word step → ⊥) }
+    ensures none { IfNone result ((step : Option StepId) → StepFits step → word.now ≡ step_word step
+        → ⊥) }
 {
     if is_word(word, b"-") {
         return Some(None);

@@ -8,7 +8,8 @@ use kj_base::{Command, Line, is_word};
 
 /// The line that these words are.
 pub fn line_of(words: &[&[u8]]) -> Option<Line>
-    ensures found { IfSome result (λ line. LineFits line × (map (λ w. w.now) words.now ≡ line_words line)) }
+    ensures found { IfSome result (λ line. LineFits line
+        × (map (λ w. w.now) words.now ≡ line_words line)) }
     ensures none { IfNone result
         ((line : Line) → LineFits line → map (λ w. w.now) words.now ≡ line_words line → ⊥) }
 {
@@ -26,7 +27,8 @@ pub fn line_of(words: &[&[u8]]) -> Option<Line>
 // The line that one word is.
 fn one_word(word: &[u8]) -> Option<Line>
     ensures found { IfSome result (λ line. LineFits line × (word.now ∷ [] ≡ line_words line)) }
-    ensures none { IfNone result ((line : Line) → LineFits line → word.now ∷ [] ≡ line_words line → ⊥) }
+    ensures none { IfNone result ((line : Line) → LineFits line → word.now ∷ [] ≡ line_words line
+        → ⊥) }
 {
     if is_word(word, b"turn") {
         return Some(Line::Turn);
@@ -36,7 +38,8 @@ fn one_word(word: &[u8]) -> Option<Line>
 
 // The line that two words are.
 fn two_words(word: &[u8], a: &[u8]) -> Option<Line>
-    ensures found { IfSome result (λ line. LineFits line × (word.now ∷ a.now ∷ [] ≡ line_words line)) }
+    ensures found { IfSome result (λ line. LineFits line
+        × (word.now ∷ a.now ∷ [] ≡ line_words line)) }
     ensures none { IfNone result
         ((line : Line) → LineFits line → word.now ∷ a.now ∷ [] ≡ line_words line → ⊥) }
 {

@@ -43,7 +43,8 @@ fn do_line(
 ) -> Result<(), NoMemory>
     requires running { core.old.stopped ≡ false }
     requires told { told_by steps.old ≡ Some [] }
-    ensures line { OnOk result (LineDone (numbered_of line.now) core.old core.new text.old text.new) }
+    ensures line { OnOk result
+        (LineDone (numbered_of line.now) core.old core.new text.old text.new) }
     ensures told { OnOk result (told_by steps.new ≡ Some []) }
     ensures running { OnOk result (core.new.stopped ≡ false) }
 {
@@ -63,7 +64,8 @@ fn do_command(
 ) -> Result<(), NoMemory>
     requires running { core.old.stopped ≡ false }
     requires told { told_by steps.old ≡ Some [] }
-    ensures line { OnOk result (LineDone (record { number = number; line = Do (command_of command) })
+    ensures line { OnOk result
+        (LineDone (record { number = number; line = Do (command_of command) })
         core.old core.new text.old text.new) }
     ensures told { OnOk result (told_by steps.new ≡ Some []) }
     ensures running { OnOk result (core.new.stopped ≡ false) }

@@ -88,8 +88,10 @@ fn three_words(word: &[u8], loops: &[u8], service: &[u8]) -> Option<Form>
 
 // The form that four words are.
 fn four_words(word: &[u8], number: &[u8], conns: &[u8], requests: &[u8]) -> Option<Form>
-    ensures found { IfSome result (IsFormOf (word.now ∷ number.now ∷ conns.now ∷ requests.now ∷ [])) }
-    ensures none { IfNone result (IsNoFormOf (word.now ∷ number.now ∷ conns.now ∷ requests.now ∷ [])) }
+    ensures found { IfSome result
+        (IsFormOf (word.now ∷ number.now ∷ conns.now ∷ requests.now ∷ [])) }
+    ensures none { IfNone result
+        (IsNoFormOf (word.now ∷ number.now ∷ conns.now ∷ requests.now ∷ [])) }
 {
     if !is_word(word, b"make") {
         return None;

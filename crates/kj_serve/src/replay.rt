@@ -121,9 +121,11 @@ fn serve<S: Service + Drop>(
 
 // Writes how many connections of a bad recording are whole.
 fn refuse<O: Sink>(alloc: Global, whole: u32, output: &mut O) -> u8
-    ensures bad { result ≡ 1 → Appends (O.taken output.old) (O.taken output.new) (bad_record whole) }
+    ensures bad { result ≡ 1
+        → Appends (O.taken output.old) (O.taken output.new) (bad_record whole) }
     ensures cause { result ≡ 4 → Rose (O.faults output.old) (O.faults output.new) }
-    ensures front { result ≡ 4 → WroteFront (O.taken output.old) (O.taken output.new) (bad_record whole) }
+    ensures front { result ≡ 4
+        → WroteFront (O.taken output.old) (O.taken output.new) (bad_record whole) }
     ensures no_memory { result ≡ 5 → O.taken output.new ≡ O.taken output.old }
     ensures statuses { (result ≡ 1) ⊎ (result ≡ 4) ⊎ (result ≡ 5) }
 {
