@@ -53,14 +53,3 @@ bit p (Some q) = cond (p q.state) 1 0
 
 abbrev pub marks : (State → Bool) → List Request → Marks
 marks p rs k = bit p (slice_get rs k)
-
--- the requests that wait for their start, and those that the target runs, are linked; each of those that are to be told that they are
--- to end is at or behind `from`, which is one that runs, or else the bound of these
-pub record Linked (limit : ℕ) (rs : List Request) (waiting running : Chain) (from : ℕ) : Type 0 where
-  pub waits : IsChain (marks queued_state rs) limit waiting
-  pub runs : IsChain (marks running_state rs) limit running
-  pub waiting_in : waiting.bound ≤ length rs
-  pub running_in : running.bound ≤ length rs
-  pub started : (k : ℕ) → k < running.bound → marks queued_state rs k ≡ 0
-  pub told : (k : ℕ) → k < from → marks canceling_state rs k ≡ 0
-  pub from_is : (from ≡ running.bound) ⊎ (marks running_state rs from ≡ 1)
