@@ -1,5 +1,5 @@
 -- What each change of the board leaves linked.
-use Rattle.std.proofs.Common.{◌≡◌, ◌≢◌, ℕ, ◌+◌, ◌<◌, ◌≤◌, ◌⊎◌, Bool, true, false, cond, List, [], ◌∷◌, ◌++◌, map, set, length, length-set, length-append, refl, ap, ◌∙◌, subst, sym, arith, le_refl, ⊎_elim, Option, Some, None}
+use Rattle.std.proofs.Common.{◌≡◌, ◌≢◌, ℕ, ◌+◌, ◌<◌, ◌≤◌, Bool, true, false, cond, List, [], ◌∷◌, ◌++◌, map, set, length, length-set, length-append, refl, ap, ◌∙◌, subst, sym, arith, le_refl, ⊎_elim, Option, Some, None}
 use Rattle.std.specs.List.{All, Contains}
 use Rattle.std.specs.List.Sorted.{IsPermutation}
 use Rattle.std.specs.BinaryHeap.{heap_len, heap_capacity}
@@ -93,10 +93,7 @@ module _ (rs : List Request) (r : ℕ) (q : Request) (st : State) (at : slice_ge
   out : (p : State → Bool) → p st ≡ false → Without (marks p rs) (marks p (set_state rs r st)) r
   out p no_more = (set_else p, set_here p ∙ ap mark no_more)
 
-  into : (p : State → Bool) → p st ≡ true → With (marks p rs) (marks p (set_state rs r st)) r
-  into p now = (set_else p, set_here p ∙ ap mark now)
-
-  -- which request is to be told stays, but for r
+  -- what is to be told was to be told before
   told_else : (asked : Asked) → ((k : ℕ) → marks canceling_state rs k ≡ 1 → Contains (numbers asked) k) → canceling_state st ≡ false → (k : ℕ) → marks canceling_state (set_state rs r st) k ≡ 1 → Contains (numbers asked) k
   told_else asked told t k one = dite (ℕ_discrete k r)
       (λ e. let zero : marks canceling_state (set_state rs r st) k ≡ 0 = ap (marks canceling_state (set_state rs r st)) e ∙ set_here canceling_state ∙ ap mark t in absurd (let z : ⊥ = omega arith in z))

@@ -3,7 +3,6 @@ use Rattle.std.specs.Prelude.{◌≡◌, ◌≢◌, ℕ, ◌+◌, ◌<◌, ◌�
 use Rattle.executor_core.specs.declared.chain.Chain.{Chain}
 use Rattle.executor_core.specs.declared.request.Request.{Request}
 use Rattle.executor_core.specs.declared.request.State.{State}
-use Rattle.executor_core.specs.Acts.{queued_state, canceling_state, running_state}
 
 -- a set of numbers: 1 where the number is in it, else 0
 abbrev pub Marks : Type 0

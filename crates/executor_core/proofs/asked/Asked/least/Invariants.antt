@@ -1,4 +1,4 @@
-use Rattle.std.proofs.Common.{◌≡◌, ℕ, heap_len}
+use Rattle.std.proofs.Common.{ℕ, heap_len}
 use Rattle.executor_core.specs.Asks.{Asks}
 use Rattle.executor_core.proofs.asked.Asked.least.Given as goal
 

@@ -1,5 +1,3 @@
-use Rattle.std.proofs.Common.{◌∷◌, heap_items}
-use Rattle.std.specs.List.Sorted.{IsPermutation}
 use Rattle.std.proofs.lemmas.List.Sorted.{IsPermutation-map}
 use Rattle.executor_core.proofs.Asking.{on_ok}
 use Rattle.executor_core.proofs.asked.Asked.push.Goals as goal
