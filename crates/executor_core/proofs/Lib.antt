@@ -7,5 +7,6 @@ pub mod Answered
 pub mod Own
 pub mod Opens
 pub mod Chains
+pub mod Asking
 pub mod Links
 pub mod Ends

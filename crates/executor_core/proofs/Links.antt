@@ -1,51 +1,38 @@
 -- What each change of the board leaves linked.
-use Rattle.std.proofs.Common.{◌≡◌, ◌≢◌, ℕ, ◌+◌, ◌<◌, ◌≤◌, ◌⊎◌, Bool, true, false, cond, List, [], ◌∷◌, ◌++◌, map, length, length-set, length-append, refl, ap, ◌∙◌, sym, arith, inl, inr, ⊎_elim, Option, Some, None}
-use Rattle.std.proofs.lemmas.Bool.{cases_lt}
+use Rattle.std.proofs.Common.{◌≡◌, ◌≢◌, ℕ, ◌+◌, ◌<◌, ◌≤◌, Bool, true, false, cond, List, [], ◌∷◌, ◌++◌, map, set, length, length-set, length-append, refl, ap, ◌∙◌, subst, sym, arith, le_refl, ⊎_elim, Option, Some, None}
+use Rattle.std.specs.List.{All, Contains}
+use Rattle.std.specs.List.Sorted.{IsPermutation}
+use Rattle.std.specs.BinaryHeap.{heap_len, heap_capacity}
 use Rattle.std.proofs.lemmas.List.{length-map}
+use Rattle.std.proofs.lemmas.List.Elements.{All-nil, All-cons, All-weaker, Contains-append_right}
+use Rattle.std.proofs.lemmas.List.Sorted.{All-permutation, Contains-permutation}
 use Rattle.std.proofs.lemmas.Option.{slice_get-map, slice_get_within}
 use mathlib.Core.Logic.{dite}
 use native.Mathlib.Decide.{ℕ_discrete}
-use Rattle.std.specs.Prelude.{slice_get, slice_set, min}
+use Rattle.std.specs.Prelude.{slice_get, slice_set}
 use Rattle.std.specs.Option.{option_map}
+use Rattle.executor_core.specs.declared.asked.Asked.{Asked}
 use Rattle.executor_core.specs.declared.chain.Chain.{Chain}
 use Rattle.executor_core.specs.declared.request.State.{State}
 use Rattle.executor_core.specs.declared.request.State.TheVariants.{Queued, Executing, Canceling, Stopping, Done as DoneState, Spent}
 use Rattle.executor_core.specs.declared.request.Request.{Request}
 use Rattle.executor_core.specs.Acts.{is_queued, queued_state, canceling_state, running_state, set_state, shut, disconnected}
-use Rattle.executor_core.specs.Chains.{Marks, IsChain, IsAfter, Without, With, bit, marks, Linked}
+use Rattle.executor_core.specs.Asks.{Asks, Linked, Ordered, numbers, total, askable, askable_state, askable_weight}
+use Rattle.executor_core.specs.Chains.{Marks, IsChain, Without, With, bit, marks}
+use Rattle.executor_core.proofs.Asking.{total_set, total_snoc, total_closes, total_least, contains_first}
 use Rattle.executor_core.proofs.Chains.{same_chain}
 use Rattle.executor_core.proofs.Steps.{at_state, get_snoc, past}
-
--- the lesser of two numbers is one of them
-pub lesser_is : (a b : ℕ) → (min a b ≡ a) ⊎ (min a b ≡ b)
-lesser_is a b = by_test (cases_lt a b)
-  where
-    by_test : (a < b) ⊎ (b ≤ a) → (min a b ≡ a) ⊎ (min a b ≡ b)
-    by_test (inl less) = inl (omega (arith, less))
-    by_test (inr more) = inr (omega (arith, more))
 
 abbrev pub mark : Bool → ℕ
 mark b = cond b 1 0
 
-quiet : (st : State) → mark (running_state st) ≡ 0 → mark (canceling_state st) ≡ 0
-quiet Queued e = refl
-quiet Executing e = refl
-quiet Canceling e = absurd (omega arith)
-quiet Stopping e = refl
-quiet (DoneState o) e = refl
-quiet Spent e = refl
-
--- what does not run is not to be told either
-pub not_told : (rs : List Request) (k : ℕ) → marks running_state rs k ≡ 0 → marks canceling_state rs k ≡ 0
-not_told rs k = elim (slice_get rs k) as (λ o. bit running_state o ≡ 0 → bit canceling_state o ≡ 0) [ None ↦ λ e. refl | Some q ↦ λ e. quiet q.state e ]
-
-waits_not_runs : (st : State) → queued_state st ≡ true → running_state st ≡ false
-waits_not_runs Queued e = refl
-waits_not_runs Executing e = absurd cc
-waits_not_runs Canceling e = absurd cc
-waits_not_runs Stopping e = absurd cc
-waits_not_runs (DoneState o) e = refl
-waits_not_runs Spent e = refl
+waits_askable : (st : State) → queued_state st ≡ true → askable_state st ≡ true
+waits_askable Queued e = refl
+waits_askable Executing e = refl
+waits_askable Canceling e = absurd cc
+waits_askable Stopping e = absurd cc
+waits_askable (DoneState o) e = absurd cc
+waits_askable Spent e = absurd cc
 
 pub runs_not_waits : (st : State) → running_state st ≡ true → queued_state st ≡ false
 runs_not_waits Queued e = absurd cc
@@ -54,6 +41,14 @@ runs_not_waits Canceling e = refl
 runs_not_waits Stopping e = refl
 runs_not_waits (DoneState o) e = refl
 runs_not_waits Spent e = refl
+
+pub canceling_not_askable : (st : State) → canceling_state st ≡ true → askable_state st ≡ false
+canceling_not_askable Queued e = absurd cc
+canceling_not_askable Executing e = absurd cc
+canceling_not_askable Canceling e = refl
+canceling_not_askable Stopping e = absurd cc
+canceling_not_askable (DoneState o) e = absurd cc
+canceling_not_askable Spent e = absurd cc
 
 waits_quiet : (st : State) → queued_state st ≡ true → canceling_state st ≡ false
 waits_quiet Queued e = refl
@@ -72,6 +67,10 @@ Removes c d r = (w v : Marks) (limit : ℕ) → IsChain w limit c → w r ≡ 1 
 
 abbrev pub Adds : Chain → Chain → ℕ → Type 0
 Adds c d r = (w v : Marks) (limit : ℕ) → IsChain w limit c → With w v r → IsChain v limit d
+
+most_one : (b : Bool) → mark b ≤ 1
+most_one true = omega arith
+most_one false = omega arith
 
 module _ (rs : List Request) (r : ℕ) (q : Request) (st : State) (at : slice_get rs r ≡ Some q) where
   pub length_state : length (set_state rs r st) ≡ length rs
@@ -94,86 +93,67 @@ module _ (rs : List Request) (r : ℕ) (q : Request) (st : State) (at : slice_ge
   out : (p : State → Bool) → p st ≡ false → Without (marks p rs) (marks p (set_state rs r st)) r
   out p no_more = (set_else p, set_here p ∙ ap mark no_more)
 
-  into : (p : State → Bool) → p st ≡ true → With (marks p rs) (marks p (set_state rs r st)) r
-  into p now = (set_else p, set_here p ∙ ap mark now)
+  -- what is to be told was to be told before
+  told_else : (asked : Asked) → ((k : ℕ) → marks canceling_state rs k ≡ 1 → Contains (numbers asked) k) → canceling_state st ≡ false → (k : ℕ) → marks canceling_state (set_state rs r st) k ≡ 1 → Contains (numbers asked) k
+  told_else asked told t k one = dite (ℕ_discrete k r)
+      (λ e. let zero : marks canceling_state (set_state rs r st) k ≡ 0 = ap (marks canceling_state (set_state rs r st)) e ∙ set_here canceling_state ∙ ap mark t in absurd (let z : ⊥ = omega arith in z))
+      (λ ne. told k (sym (set_else canceling_state k ne) ∙ one))
 
-  -- what is not to be told stays so, but for r
-  quiet_else : (p : State → Bool) → p st ≡ false → (k : ℕ) → marks p rs k ≡ 0 → marks p (set_state rs r st) k ≡ 0
-  quiet_else p no_more k z = dite (ℕ_discrete k r) (λ e. ap (marks p (set_state rs r st)) e ∙ set_here p ∙ ap mark no_more) (λ ne. set_else p k ne ∙ z)
+  askable_change : askable (set_state rs r st) + mark (askable_state q.state) ≡ askable rs + mark (askable_state st)
+  askable_change = let x : Request = record q { state = st } in let is : set_state rs r st ≡ set rs r x = ap (λ (o : Option Request). elim o as (λ _. List Request) [ None ↦ rs | Some q ↦ slice_set rs r (record q { state = st }) ]) at in
+      ap (λ (l : List Request). total askable_weight l + mark (askable_state q.state)) is ∙ total_set askable_weight rs r q x at
 
-  module _ (limit : ℕ) (waiting running : Chain) (from : ℕ) (l : Linked limit rs waiting running from) where
-    -- the request waits or runs as before, and is not to be told
-    pub set_linked : queued_state st ≡ queued_state q.state → running_state st ≡ running_state q.state → canceling_state st ≡ false → Linked limit (set_state rs r st) waiting running from
-    set_linked w n t = let long = length_state in let a = l.waiting_in in let b = l.running_in in record {
+  module _ (limit : ℕ) (waiting : Chain) (asked : Asked) (l : Linked limit rs waiting asked) where
+    -- the request is not to be told, and may be asked to end only where it could be before
+    quiet_asks : canceling_state st ≡ false → mark (askable_state st) ≤ mark (askable_state q.state) → Asks limit (set_state rs r st) asked
+    quiet_asks t less = let a = l.asks in let long = length_state in let change = askable_change in let fits = a.fits in record {
+      ordered = a.ordered;
+      within = subst (λ (n : ℕ). All (λ k. k < n) (numbers asked)) (sym long) a.within;
+      told = told_else asked a.told t;
+      fits = omega arith;
+      room = a.room;
+    }
+
+    -- it waits as before
+    pub set_linked : queued_state st ≡ queued_state q.state → canceling_state st ≡ false → mark (askable_state st) ≤ mark (askable_state q.state) → Linked limit (set_state rs r st) waiting asked
+    set_linked w t less = let long = length_state in let a = l.waiting_in in record {
       waits = same_is_chain (marks queued_state rs) (marks queued_state (set_state rs r st)) limit waiting (stays queued_state w) l.waits;
-      runs = same_is_chain (marks running_state rs) (marks running_state (set_state rs r st)) limit running (stays running_state n) l.runs;
       waiting_in = omega arith;
-      running_in = omega arith;
-      started = λ k low. stays queued_state w k ∙ l.started k low;
-      told = λ k low. quiet_else canceling_state t k (l.told k low);
-      from_is = ⊎_elim (λ h. inl h) (λ h. inr (stays running_state n from ∙ h)) l.from_is;
+      asks = quiet_asks t less;
     }
 
-    pub withdraw_linked : (waiting' : Chain) → Removes waiting waiting' r → waiting'.bound ≡ waiting.bound → queued_state q.state ≡ true → queued_state st ≡ false → running_state st ≡ false → canceling_state st ≡ false → Linked limit (set_state rs r st) waiting' running from
-    withdraw_linked waiting' removes bound was w n t = let long = length_state in let a = l.waiting_in in let b = l.running_in in let same : running_state st ≡ running_state q.state = n ∙ sym (waits_not_runs q.state was) in record {
+    -- it waits no longer
+    pub leave_linked : (waiting' : Chain) → Removes waiting waiting' r → waiting'.bound ≡ waiting.bound → queued_state q.state ≡ true → queued_state st ≡ false → canceling_state st ≡ false → Linked limit (set_state rs r st) waiting' asked
+    leave_linked waiting' removes bound was w t = let long = length_state in let a = l.waiting_in in record {
       waits = removes (marks queued_state rs) (marks queued_state (set_state rs r st)) limit l.waits (here queued_state true was) (out queued_state w);
-      runs = same_is_chain (marks running_state rs) (marks running_state (set_state rs r st)) limit running (stays running_state same) l.runs;
       waiting_in = omega arith;
-      running_in = omega arith;
-      started = λ k low. quiet_else queued_state w k (l.started k low);
-      told = λ k low. quiet_else canceling_state t k (l.told k low);
-      from_is = ⊎_elim (λ h. inl h) (λ h. inr (stays running_state same from ∙ h)) l.from_is;
+      asks = quiet_asks t (subst (λ (b : Bool). mark (askable_state st) ≤ mark b) (sym (waits_askable q.state was)) (most_one (askable_state st)));
     }
 
-    pub ask_linked : (from' : ℕ) → from' ≤ from → from' ≤ r → (from' ≡ from) ⊎ (from' ≡ r) → running_state q.state ≡ true → queued_state st ≡ false → running_state st ≡ true → Linked limit (set_state rs r st) waiting running from'
-    ask_linked from' low below which was w n = let long = length_state in let a = l.waiting_in in let b = l.running_in in let same : running_state st ≡ running_state q.state = n ∙ sym was in let same' : queued_state st ≡ queued_state q.state = w ∙ sym (runs_not_waits q.state was) in record {
-      waits = same_is_chain (marks queued_state rs) (marks queued_state (set_state rs r st)) limit waiting (stays queued_state same') l.waits;
-      runs = same_is_chain (marks running_state rs) (marks running_state (set_state rs r st)) limit running (stays running_state same) l.runs;
-      waiting_in = omega arith;
-      running_in = omega arith;
-      started = λ k under. stays queued_state same' k ∙ l.started k under;
-      told = λ k under. set_else canceling_state k (λ e. omega arith) ∙ l.told k (omega arith);
-      from_is = ⊎_elim
-          (λ e. ⊎_elim (λ h. inl (e ∙ h)) (λ h. inr (ap (marks running_state (set_state rs r st)) e ∙ stays running_state same from ∙ h)) l.from_is)
-          (λ e. inr (ap (marks running_state (set_state rs r st)) e ∙ set_here running_state ∙ ap mark n)) which;
-    }
+    -- there is room for one more that is asked to end
+    pub asks_room : askable_state q.state ≡ true → length rs ≤ limit → heap_len asked.heap < heap_capacity asked.heap
+    asks_room may small = let a = l.asks in let fits = a.fits in let room = a.room in let some = total_least askable_weight rs r q at in let one : mark (askable_state q.state) ≡ 1 = ap mark may in
+        let w : ℕ = mark (askable_state q.state) in let n : ℕ = askable rs in let some' : w ≤ n = some in omega arith
 
-    pub start_linked : (waiting' running' : Chain) (from' : ℕ) → Removes waiting waiting' r → waiting'.bound ≡ waiting.bound → Adds running running' r → running'.bound ≡ r + 1 → ((k : ℕ) → k < r → marks queued_state rs k ≡ 0)
-        → ((from ≡ running.bound) × (from' ≡ r + 1)) ⊎ ((from ≢ running.bound) × (from' ≡ from)) → queued_state st ≡ false → running_state st ≡ true → canceling_state st ≡ false → queued_state q.state ≡ true → Linked limit (set_state rs r st) waiting' running' from'
-    start_linked waiting' running' from' removes bound adds bound' first which w n t was = let long = length_state in let a = l.waiting_in in let b = l.running_in in let there = slice_get_within rs r q at in let ends = l.runs.0.within in record {
-      waits = removes (marks queued_state rs) (marks queued_state (set_state rs r st)) limit l.waits (here queued_state true was) (out queued_state w);
-      runs = adds (marks running_state rs) (marks running_state (set_state rs r st)) limit l.runs (into running_state n);
-      waiting_in = omega arith;
-      running_in = omega arith;
-      started = λ k low. dite (ℕ_discrete k r)
-          (λ e. ap (marks queued_state (set_state rs r st)) e ∙ set_here queued_state ∙ ap mark w)
-          (λ ne. set_else queued_state k ne ∙ first k (omega arith));
-      told = λ k low. quiet_else canceling_state t k (⊎_elim
-          (λ h. let e = h.0 in ⊎_elim (λ x. l.told k x) (λ x. not_told rs k (l.runs.0.past k (omega arith))) (cases_lt k from))
-          (λ h. let e = h.1 in l.told k (omega arith)) which);
-      from_is = ⊎_elim (λ h. inl (h.1 ∙ sym bound'))
-          (λ h. ⊎_elim (λ e. absurd (h.0 e)) (λ x. inr (ap (marks running_state (set_state rs r st)) h.1 ∙ dite (ℕ_discrete from r)
-          (λ e. ap (marks running_state (set_state rs r st)) e ∙ set_here running_state ∙ ap mark n)
-          (λ ne. set_else running_state from ne ∙ x))) l.from_is) which;
-    }
-
-    pub finish_linked : (running' : Chain) (from' n : ℕ) → Removes running running' r → running'.bound ≡ running.bound → IsAfter (marks running_state rs) running.bound r n
-        → ((from ≡ r) × (from' ≡ n)) ⊎ ((from ≢ r) × (from' ≡ from)) → queued_state st ≡ false → running_state st ≡ false → canceling_state st ≡ false → running_state q.state ≡ true → Linked limit (set_state rs r st) waiting running' from'
-    finish_linked running' from' n removes bound next which w no_more t was = let long = length_state in let a = l.waiting_in in let b = l.running_in in let same : queued_state st ≡ queued_state q.state = w ∙ sym (runs_not_waits q.state was) in let over = next.0 in let most = next.1 in record {
-      waits = same_is_chain (marks queued_state rs) (marks queued_state (set_state rs r st)) limit waiting (stays queued_state same) l.waits;
-      runs = removes (marks running_state rs) (marks running_state (set_state rs r st)) limit l.runs (here running_state true was) (out running_state no_more);
-      waiting_in = omega arith;
-      running_in = omega arith;
-      started = λ k low. stays queued_state same k ∙ l.started k (omega arith);
-      told = λ k low. ⊎_elim
-          (λ h. let e = h.0 in let e' = h.1 in dite (ℕ_discrete k r)
-          (λ is. ap (marks canceling_state (set_state rs r st)) is ∙ set_here canceling_state ∙ ap mark t)
-          (λ ne. set_else canceling_state k ne ∙ ⊎_elim (λ x. l.told k (omega arith)) (λ x. not_told rs k (next.2 k (omega arith) (omega arith))) (cases_lt k r)))
-          (λ h. let e = h.1 in quiet_else canceling_state t k (l.told k (omega arith))) which;
-      from_is = ⊎_elim
-          (λ h. let e = h.1 in ⊎_elim (λ x. inr (ap (marks running_state (set_state rs r st)) e ∙ set_else running_state n (λ z. omega arith) ∙ next.3 x)) (λ x. inl (let z : from' ≡ running'.bound = omega arith in z)) (cases_lt n running.bound))
-          (λ h. ⊎_elim (λ e. inl (h.1 ∙ e ∙ sym bound)) (λ x. inr (ap (marks running_state (set_state rs r st)) h.1 ∙ set_else running_state from h.0 ∙ x)) l.from_is) which;
-    }
+    -- its end is asked, and it is entered
+    pub ask_linked : (asked' : Asked) → IsPermutation (r ∷ numbers asked) (numbers asked') → (Ordered asked → Ordered asked') → heap_len asked'.heap ≡ heap_len asked.heap + 1 → heap_capacity asked.heap ≤ heap_capacity asked'.heap
+        → queued_state st ≡ queued_state q.state → askable_state q.state ≡ true → askable_state st ≡ false → Linked limit (set_state rs r st) waiting asked'
+    ask_linked asked' p order more large w may no_more = let long = length_state in let b = l.waiting_in in let a = l.asks in let fits = a.fits in let room = a.room in
+        let change = askable_change in let one : mark (askable_state q.state) ≡ 1 = ap mark may in let none : mark (askable_state st) ≡ 0 = ap mark no_more in
+        let there : r < length (set_state rs r st) = subst (λ (n : ℕ). r < n) (sym long) (slice_get_within rs r q at) in
+        let within : All (λ k. k < length (set_state rs r st)) (numbers asked) = subst (λ (n : ℕ). All (λ k. k < n) (numbers asked)) (sym long) a.within in record {
+          waits = same_is_chain (marks queued_state rs) (marks queued_state (set_state rs r st)) limit waiting (stays queued_state w) l.waits;
+          waiting_in = omega arith;
+          asks = record {
+            ordered = order a.ordered;
+            within = All-permutation (λ k. k < length (set_state rs r st)) (r ∷ numbers asked) (numbers asked') p (All-cons (λ k. k < length (set_state rs r st)) r (numbers asked) there within);
+            told = λ k one. Contains-permutation (r ∷ numbers asked) (numbers asked') k p (dite (ℕ_discrete k r)
+                (λ e. subst (Contains (r ∷ numbers asked)) (sym e) (contains_first r (numbers asked)))
+                (λ ne. Contains-append_right (r ∷ []) (numbers asked) k (a.told k (sym (set_else canceling_state k ne) ∙ one))));
+            fits = omega arith;
+            room = omega arith;
+          };
+        }
 
 one_mark : (b : Bool) → mark b ≡ 1 → b ≡ true
 one_mark true e = refl
@@ -189,27 +169,17 @@ of_mark p rs r e = elim (slice_get rs r) as (λ o. slice_get rs r ≡ o → bit 
 pub no_mark : (p : State → Bool) (rs : List Request) (k : ℕ) (q : Request) → marks p rs k ≡ 0 → slice_get rs k ≡ Some q → p q.state ≡ false
 no_mark p rs k q e at = elim (p q.state) as (λ b. mark b ≡ 0 → b ≡ false) [ true ↦ λ z. absurd (omega arith) | false ↦ λ z. refl ] (sym (ap (bit p) at) ∙ e)
 
--- another place to begin the search
-pub from_linked : (limit : ℕ) (rs : List Request) (waiting running : Chain) (from from' : ℕ) → Linked limit rs waiting running from → ((k : ℕ) → k < from' → marks canceling_state rs k ≡ 0) → (from' ≡ running.bound) ⊎ (marks running_state rs from' ≡ 1) → Linked limit rs waiting running from'
-from_linked limit rs waiting running from from' l told is = record {
-  waits = l.waits;
-  runs = l.runs;
-  waiting_in = l.waiting_in;
-  running_in = l.running_in;
-  started = l.started;
-  told = told;
-  from_is = is;
-}
-
-pub new_linked : (limit : ℕ) (waiting running : Chain) → IsChain (marks queued_state []) limit waiting → IsChain (marks running_state []) limit running → waiting.bound ≡ 0 → running.bound ≡ 0 → Linked limit [] waiting running 0
-new_linked limit waiting running w r a b = record {
+pub new_linked : (limit : ℕ) (waiting : Chain) (asked : Asked) → IsChain (marks queued_state []) limit waiting → waiting.bound ≡ 0 → numbers asked ≡ [] → Ordered asked → heap_len asked.heap ≡ 0 → heap_capacity asked.heap ≡ limit → Linked limit [] waiting asked
+new_linked limit waiting asked w bound none order empty room = record {
   waits = w;
-  runs = r;
   waiting_in = (let z : waiting.bound ≤ 0 = omega arith in z);
-  running_in = (let z : running.bound ≤ 0 = omega arith in z);
-  started = λ k low. refl;
-  told = λ k low. refl;
-  from_is = inl (sym b);
+  asks = record {
+    ordered = order;
+    within = subst (λ (l : List ℕ). All (λ k. k < 0) l) (sym none) (All-nil (λ k. k < 0));
+    told = λ k one. absurd (let z : ⊥ = omega arith in z);
+    fits = (let z : heap_len asked.heap + 0 ≤ 0 = omega arith in z);
+    room = omega arith;
+  };
 }
 
 -- a request more, which waits
@@ -223,15 +193,17 @@ module _ (rs : List Request) (q : Request) (wait : queued_state q.state ≡ true
     ⊎_elim (λ h. ap (bit queued_state) h.2 ∙ ap mark wait) (λ h. absurd (past rs q (length rs) refl h)) (get_snoc rs q (length rs)),
   )
 
-  pub submit_linked : (limit : ℕ) (waiting waiting' running : Chain) (from : ℕ) → Linked limit rs waiting running from → Adds waiting waiting' (length rs) → waiting'.bound ≡ length rs + 1 → Linked limit (rs ++ q ∷ []) waiting' running from
-  submit_linked limit waiting waiting' running from l adds bound = let long = length-append rs (q ∷ []) in let b = l.running_in in let runs = snoc_same running_state (waits_not_runs q.state wait) in record {
+  pub submit_linked : (limit : ℕ) (waiting waiting' : Chain) (asked : Asked) → Linked limit rs waiting asked → Adds waiting waiting' (length rs) → waiting'.bound ≡ length rs + 1 → Linked limit (rs ++ q ∷ []) waiting' asked
+  submit_linked limit waiting waiting' asked l adds bound = let long = length-append rs (q ∷ []) in let a = l.asks in let fits = a.fits in let more = total_snoc askable_weight rs q in let one : mark (askable_state q.state) ≡ 1 = ap mark (waits_askable q.state wait) in record {
     waits = adds (marks queued_state rs) (marks queued_state (rs ++ q ∷ [])) limit l.waits snoc_with;
-    runs = same_is_chain (marks running_state rs) (marks running_state (rs ++ q ∷ [])) limit running runs l.runs;
     waiting_in = omega arith;
-    running_in = omega arith;
-    started = λ k low. snoc_with.0 k (λ e. omega arith) ∙ l.started k low;
-    told = λ k low. snoc_same canceling_state (waits_quiet q.state wait) k ∙ l.told k low;
-    from_is = ⊎_elim (λ h. inl h) (λ h. inr (runs from ∙ h)) l.from_is;
+    asks = record {
+      ordered = a.ordered;
+      within = All-weaker (λ k. k < length rs) (λ k. k < length (rs ++ q ∷ [])) (λ k low. omega arith) (numbers asked) a.within;
+      told = λ k one. a.told k (sym (snoc_same canceling_state (waits_quiet q.state wait) k) ∙ one);
+      fits = (let n : ℕ = askable rs in let m : ℕ = askable (rs ++ q ∷ []) in let w : ℕ = mark (askable_state q.state) in let more' : m ≡ n + w = more in let one' : w ≡ 1 = one in let z : heap_len asked.heap + m ≤ length (rs ++ q ∷ []) = omega arith in z);
+      room = a.room;
+    };
   }
 
 shut_waits : (o : Option Request) → bit queued_state (option_map shut o) ≡ 0
@@ -245,16 +217,22 @@ shut_else p ended waits (Some q) = elim (is_queued q) as (λ b. is_queued q ≡ 
   | false ↦ λ e. refl
 ] refl
 
-pub close_linked : (limit : ℕ) (rs : List Request) (waiting waiting' running : Chain) (from : ℕ) → Linked limit rs waiting running from
-    → ((w v : Marks) (limit : ℕ) → IsChain w limit waiting → ((k : ℕ) → v k ≡ 0) → IsChain v limit waiting') → waiting'.bound ≡ waiting.bound → Linked limit (map shut rs) waiting' running from
-close_linked limit rs waiting waiting' running from l clears bound = let long = length-map rs shut in let a = l.waiting_in in let b = l.running_in in
-    let none : (k : ℕ) → marks queued_state (map shut rs) k ≡ 0 = λ k. ap (bit queued_state) (slice_get-map shut rs k) ∙ shut_waits (slice_get rs k) in
-    let runs : (k : ℕ) → marks running_state (map shut rs) k ≡ marks running_state rs k = λ k. ap (bit running_state) (slice_get-map shut rs k) ∙ shut_else running_state refl waits_not_runs (slice_get rs k) in record {
-      waits = clears (marks queued_state rs) (marks queued_state (map shut rs)) limit l.waits none;
-      runs = same_is_chain (marks running_state rs) (marks running_state (map shut rs)) limit running runs l.runs;
-      waiting_in = omega arith;
-      running_in = omega arith;
-      started = λ k low. none k;
-      told = λ k low. ap (bit canceling_state) (slice_get-map shut rs k) ∙ shut_else canceling_state refl waits_quiet (slice_get rs k) ∙ l.told k low;
-      from_is = ⊎_elim (λ h. inl h) (λ h. inr (runs from ∙ h)) l.from_is;
-    }
+shut_askable : (q : Request) → askable_weight (shut q).state ≤ askable_weight q.state
+shut_askable q = elim (is_queued q) as (λ b. askable_weight (cond b (record q { state = DoneState disconnected }) q).state ≤ askable_weight q.state) [
+  | true ↦ (let n : ℕ = askable_weight q.state in let z : 0 ≤ n = omega arith in z)
+  | false ↦ le_refl _
+]
+
+pub close_linked : (limit : ℕ) (rs : List Request) (waiting waiting' : Chain) (asked : Asked) → Linked limit rs waiting asked
+    → ((w v : Marks) (limit : ℕ) → IsChain w limit waiting → ((k : ℕ) → v k ≡ 0) → IsChain v limit waiting') → waiting'.bound ≡ waiting.bound → Linked limit (map shut rs) waiting' asked
+close_linked limit rs waiting waiting' asked l clears bound = let long = length-map rs shut in let b = l.waiting_in in let a = l.asks in let fits = a.fits in let less = total_closes askable_weight shut_askable rs in record {
+  waits = clears (marks queued_state rs) (marks queued_state (map shut rs)) limit l.waits (λ k. ap (bit queued_state) (slice_get-map shut rs k) ∙ shut_waits (slice_get rs k));
+  waiting_in = omega arith;
+  asks = record {
+    ordered = a.ordered;
+    within = subst (λ (n : ℕ). All (λ k. k < n) (numbers asked)) (sym long) a.within;
+    told = λ k one. a.told k (sym (ap (bit canceling_state) (slice_get-map shut rs k) ∙ shut_else canceling_state refl waits_quiet (slice_get rs k)) ∙ one);
+    fits = omega arith;
+    room = a.room;
+  };
+}

@@ -1,12 +1,9 @@
 -- The least request that passes, and what a change of each element leaves.
 use Rattle.std.proofs.Common.{◌≡◌, ℕ, zero, suc, ◌+◌, ◌<◌, Bool, true, false, cond, List, [], ◌∷◌, ◌++◌, map, take, drop, set, get_or, length, refl, ap, ◌∙◌, subst, sym, arith, Some, None}
-use mathlib.Core.Logic.{dite}
-use native.Mathlib.Decide.{ℕ_discrete}
 use Rattle.std.specs.Prelude.{slice_get}
 use Rattle.std.specs.List.{position_from}
 use Rattle.executor_core.specs.declared.request.Request.{Request}
-use Rattle.executor_core.specs.declared.request.State.TheVariants.{Done as DoneState}
-use Rattle.executor_core.specs.Acts.{NoneBelow, least, is_queued, is_canceling, shut, disconnected}
+use Rattle.executor_core.specs.Acts.{NoneBelow, least}
 
 tail_below : (p : Request → Bool) (q : Request) (rs : List Request) (n : ℕ) → NoneBelow p (q ∷ rs) (suc n) → NoneBelow p rs n
 tail_below p q rs n h k x lt e = h (suc k) x (omega arith) e
@@ -36,21 +33,3 @@ mapped f (x ∷ xs) (suc i) d h = ap (λ l. f x ∷ l) (mapped f xs i d (omega a
 pub map_step : {A : Type 0} (f : A → A) (xs cur : List A) (i : ℕ) (d y : A) → i < length xs → cur ≡ map f (take i xs) ++ drop i xs → y ≡ f (get_or cur i d) → set cur i y ≡ map f (take (i + 1) xs) ++ drop (i + 1) xs
 map_step f xs cur i d y h e q = ap (set cur i) (q ∙ ap (λ l. f (get_or l i d)) e) ∙ ap (λ l. set l i (f (get_or (map f (take i xs) ++ drop i xs) i d))) e ∙ mapped f xs i d h
     ∙ ap (λ k. map f (take k xs) ++ drop k xs) (let g : suc i ≡ i + 1 = omega arith in g)
-
-pub below_more : (p : Request → Bool) (rs : List Request) (i : ℕ) (q : Request) → NoneBelow p rs i → slice_get rs i ≡ Some q → p q ≡ false → NoneBelow p rs (i + 1)
-below_more p rs i q h e fails k x lt at = dite (ℕ_discrete k i)
-    (λ is. let same : x ≡ q = let e' : slice_get rs k ≡ Some q = ap (slice_get rs) is ∙ e in cc in ap p same ∙ fails)
-    (λ ne. h k x (omega arith) at)
-
--- a change after which no request passes that did not pass before
-pub below_map : (p : Request → Bool) (f : Request → Request) (rs : List Request) (n : ℕ) → ((q : Request) → p q ≡ false → p (f q) ≡ false) → NoneBelow p rs n → NoneBelow p (map f rs) n
-below_map p f [] n keeps h k x lt e = absurd cc
-below_map p f (q ∷ rs) n keeps h zero x lt e = let same : f q ≡ x = cc in subst (λ (y : Request). p y ≡ false) same (keeps q (h 0 q lt refl))
-below_map p f (q ∷ rs) zero keeps h (suc k) x lt e = absurd (omega arith)
-below_map p f (q ∷ rs) (suc n) keeps h (suc k) x lt e = below_map p f rs n keeps (tail_below p q rs n h) k x (omega arith) e
-
-pub shut_queued : (q : Request) → is_queued q ≡ false → is_queued (shut q) ≡ false
-shut_queued q e = subst (λ (b : Bool). is_queued (cond b (record q { state = DoneState disconnected }) q) ≡ false) (sym e) e
-
-pub shut_canceling : (q : Request) → is_canceling q ≡ false → is_canceling (shut q) ≡ false
-shut_canceling q e = elim (is_queued q) as (λ b. is_canceling (cond b (record q { state = DoneState disconnected }) q) ≡ false) [ true ↦ refl | false ↦ e ]

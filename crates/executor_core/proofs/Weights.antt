@@ -1,6 +1,6 @@
 -- A history is at most six times as long as its board has room for requests, and one entry longer.
-use Rattle.std.proofs.Common.{◌≡◌, ℕ, zero, suc, ◌+◌, ◌-◌, ◌*◌, ◌<◌, ◌≤◌, Bool, true, false, cond, List, [], ◌∷◌, ◌++◌, map, length, set, refl, ap, subst, sym, arith, le_refl, length-append, length-set, Option, Some, None}
-use Rattle.std.specs.Prelude.{slice_get, slice_set}
+use Rattle.std.proofs.Common.{◌≡◌, ℕ, ◌+◌, ◌-◌, ◌*◌, ◌<◌, ◌≤◌, Bool, true, false, cond, List, [], ◌∷◌, ◌++◌, map, length, set, refl, ap, subst, sym, arith, le_refl, length-append, length-set, Option, Some, None}
+use Rattle.std.specs.Prelude.{slice_set}
 use Rattle.std.proofs.lemmas.List.{length-map}
 use Rattle.executor_core.specs.declared.request.State.{State}
 use Rattle.executor_core.specs.declared.request.State.TheVariants.{Queued, Executing, Canceling, Stopping, Done as DoneState, Spent}
@@ -8,6 +8,8 @@ use Rattle.executor_core.specs.declared.request.Request.{Request}
 use Rattle.executor_core.specs.declared.call.Call.{Call}
 use Rattle.executor_core.specs.declared.call.Reply.{Reply}
 use Rattle.executor_core.specs.Acts.{Desk, is_queued, queued_state, canceling_state, running_state, set_state, new_request, shut, disconnected}
+use Rattle.executor_core.specs.Asks.{total}
+use Rattle.executor_core.proofs.Asking.{total_set, total_snoc, total_closes}
 use Rattle.executor_core.proofs.Moves.{Shift, Starts, Stops, Finishes, Withdraws, Asks, Collects, Move, Submits, Sets, Closes}
 
 -- how many entries may still follow for a request
@@ -20,8 +22,7 @@ left (DoneState o) = 1
 left Spent = 0
 
 abbrev pub left_of_all : List Request → ℕ
-left_of_all [] = 0
-left_of_all (q ∷ rs) = left q.state + left_of_all rs
+left_of_all rs = total left rs
 
 -- how many entries may still follow
 abbrev pub left_on : Desk → ℕ
@@ -59,40 +60,23 @@ left_shift k r q _ _ _ (Withdraws t w) = let h = left_queued q.state w in omega 
 left_shift k r q _ _ _ (Asks t w) = let h : left q.state ≡ 4 = ap left w in omega arith
 left_shift k r q _ _ _ (Collects o t w) = let h : left q.state ≡ 1 = ap left w in omega arith
 
-left_set : (rs : List Request) (r : ℕ) (q x : Request) → slice_get rs r ≡ Some q → left_of_all (set rs r x) + left q.state ≡ left_of_all rs + left x.state
-left_set [] r q x e = absurd cc
-left_set (y ∷ ys) zero q x e = let same : left y.state ≡ left q.state = (let g : y ≡ q = cc in ap (λ (z : Request). left z.state) g) in
-    let a : ℕ = left x.state in let b : ℕ = left_of_all ys in let c : ℕ = left q.state in let c' : ℕ = left y.state in let same' : c' ≡ c = same in let g : a + b + c ≡ c' + b + a = omega arith in g
-left_set (y ∷ ys) (suc r) q x e = let h = left_set ys r q x e in
-    let a : ℕ = left y.state in let b : ℕ = left_of_all (set ys r x) in let c : ℕ = left q.state in let d : ℕ = left_of_all ys in let f : ℕ = left x.state in let h' : b + c ≡ d + f = h in let g : a + b + c ≡ a + d + f = omega arith in g
-
-left_snoc : (rs : List Request) (x : Request) → left_of_all (rs ++ x ∷ []) ≡ left_of_all rs + left x.state
-left_snoc [] x = let a : ℕ = left x.state in let g : a + 0 ≡ 0 + a = omega arith in g
-left_snoc (y ∷ ys) x = let h = left_snoc ys x in
-    let a : ℕ = left y.state in let b : ℕ = left_of_all (ys ++ x ∷ []) in let c : ℕ = left_of_all ys in let f : ℕ = left x.state in let h' : b ≡ c + f = h in let g : a + b ≡ a + c + f = omega arith in g
-
 left_shut : (q : Request) → left (shut q).state ≤ left q.state
 left_shut q = elim (is_queued q) as (λ b. is_queued q ≡ b → left (cond b (record q { state = DoneState disconnected }) q).state ≤ left q.state) [
   | true ↦ λ e. let h = left_queued q.state e in omega arith
   | false ↦ λ e. le_refl _
 ] refl
 
-left_closes : (rs : List Request) → left_of_all (map shut rs) ≤ left_of_all rs
-left_closes [] = le_refl 0
-left_closes (q ∷ rs) = let h = left_closes rs in let g = left_shut q in let a : ℕ = left (shut q).state in let b : ℕ = left q.state in let c : ℕ = left_of_all (map shut rs) in let d : ℕ = left_of_all rs in
-    let g' : a ≤ b = g in let h' : c ≤ d = h in let z : a + c ≤ b + d = omega arith in z
-
 pub left_step : (d : Desk) (k : ℕ) (call : Call) (reply : Reply) (d' : Desk) → Move d k call reply d' → left_on d' + 1 ≤ left_on d
-left_step d k _ _ _ (Submits step words opened room) = let x : Request = new_request k step words in let h = left_snoc d.requests x in let l = length-append d.requests (x ∷ []) in
+left_step d k _ _ _ (Submits step words opened room) = let x : Request = new_request k step words in let h = total_snoc left d.requests x in let l = length-append d.requests (x ∷ []) in
     let a : ℕ = left_of_all (d.requests ++ x ∷ []) in let b : ℕ = left_of_all d.requests in let c : ℕ = cond d.closed 0 1 in let n : ℕ = length d.requests in let m : ℕ = length (d.requests ++ x ∷ []) in
     let h' : a ≡ b + 5 = h in let l' : m ≡ n + 1 = l in let room' : n < d.limit = room in let g : 6 * (d.limit - m) + a + c + 1 ≤ 6 * (d.limit - n) + b + c = omega arith in g
 left_step d k call reply _ (Sets _ _ r q st at shift) = let x : Request = record q { state = st } in
     let is : set_state d.requests r st ≡ set d.requests r x = ap (λ (o : Option Request). elim o as (λ _. List Request) [ None ↦ d.requests | Some q ↦ slice_set d.requests r (record q { state = st }) ]) at in
-    let h = left_set d.requests r q x at in let l = length-set d.requests r x in let f = left_shift k r q call reply st shift in
+    let h = total_set left d.requests r q x at in let l = length-set d.requests r x in let f = left_shift k r q call reply st shift in
     let a : ℕ = left_of_all (set d.requests r x) in let b : ℕ = left_of_all d.requests in let c : ℕ = cond d.closed 0 1 in let n : ℕ = length d.requests in let m : ℕ = length (set d.requests r x) in
     let y : ℕ = left q.state in let z : ℕ = left st in let h' : a + y ≡ b + z = h in let l' : m ≡ n = l in let f' : z + 1 ≤ y = f in
     subst (λ (rs : List Request). 6 * (d.limit - length rs) + left_of_all rs + c + 1 ≤ 6 * (d.limit - n) + b + c) (sym is) (let g : 6 * (d.limit - m) + a + c + 1 ≤ 6 * (d.limit - n) + b + c = omega arith in g)
-left_step d k _ _ _ (Closes target none opened) = let h = left_closes d.requests in let l = length-map d.requests shut in
+left_step d k _ _ _ (Closes target none opened) = let h = total_closes left left_shut d.requests in let l = length-map d.requests shut in
     let a : ℕ = left_of_all (map shut d.requests) in let b : ℕ = left_of_all d.requests in let n : ℕ = length d.requests in let m : ℕ = length (map shut d.requests) in
     let h' : a ≤ b = h in let l' : m ≡ n = l in let o : cond d.closed 0 1 ≡ 1 = ap (λ (b : Bool). cond b 0 1) opened in let c : ℕ = cond d.closed 0 1 in let o' : c ≡ 1 = o in
     let g : 6 * (d.limit - m) + a + 0 + 1 ≤ 6 * (d.limit - n) + b + c = omega arith in g

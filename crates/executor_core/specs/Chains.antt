@@ -3,7 +3,6 @@ use Rattle.std.specs.Prelude.{◌≡◌, ◌≢◌, ℕ, ◌+◌, ◌<◌, ◌�
 use Rattle.executor_core.specs.declared.chain.Chain.{Chain}
 use Rattle.executor_core.specs.declared.request.Request.{Request}
 use Rattle.executor_core.specs.declared.request.State.{State}
-use Rattle.executor_core.specs.Acts.{queued_state, canceling_state, running_state}
 
 -- a set of numbers: 1 where the number is in it, else 0
 abbrev pub Marks : Type 0
@@ -53,14 +52,3 @@ bit p (Some q) = cond (p q.state) 1 0
 
 abbrev pub marks : (State → Bool) → List Request → Marks
 marks p rs k = bit p (slice_get rs k)
-
--- the requests that wait for their start, and those that the target runs, are linked; each of those that are to be told that they are
--- to end is at or behind `from`, which is one that runs, or else the bound of these
-pub record Linked (limit : ℕ) (rs : List Request) (waiting running : Chain) (from : ℕ) : Type 0 where
-  pub waits : IsChain (marks queued_state rs) limit waiting
-  pub runs : IsChain (marks running_state rs) limit running
-  pub waiting_in : waiting.bound ≤ length rs
-  pub running_in : running.bound ≤ length rs
-  pub started : (k : ℕ) → k < running.bound → marks queued_state rs k ≡ 0
-  pub told : (k : ℕ) → k < from → marks canceling_state rs k ≡ 0
-  pub from_is : (from ≡ running.bound) ⊎ (marks running_state rs from ≡ 1)

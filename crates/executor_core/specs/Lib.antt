@@ -1,4 +1,5 @@
 pub mod Acts
 pub mod Histories
 pub mod Chains
+pub mod Asks
 pub mod Ends

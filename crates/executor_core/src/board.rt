@@ -1,43 +1,43 @@
 //! The board and its calls.
-ghost use Rattle.std.specs.Prelude.{◌≡◌, ◌+◌, ◌^◌, ◌<◌, ◌≤◌, ℕ, [], IfOk, IfSome, Some, length, false, true, slice_get, IsTrue, ◌↔◌};
-ghost use Rattle.executor_core.specs.Acts.{Desk, desk, act, MayAct, IsRunning, NoneRuns, least, is_queued, is_canceling, queued_state, canceling_state, running_state, with_state, submitted, submit_reply, nexted, next_reply, finished, cancelled, cancel_reply, collected, collect_reply, closes, shut};
-ghost use Rattle.executor_core.specs.Chains.{marks};
+ghost use Rattle.std.specs.Prelude.{◌≡◌, ◌+◌, ◌^◌, ◌<◌, ◌≤◌, [], IfOk, IfSome, Some, length, false, true, slice_get, IsTrue, ◌↔◌};
+ghost use Rattle.executor_core.specs.Acts.{Desk, desk, act, MayAct, IsRunning, NoneRuns, least, is_queued, is_canceling, queued_state, canceling_state, with_state, submitted, submit_reply, nexted, next_reply, finished, cancelled, cancel_reply, collected, collect_reply, closes, shut};
+ghost use Rattle.executor_core.specs.Asks.{askable_state};
 ghost use Rattle.executor_core.specs.declared.call.Reply.TheVariants.{Done};
 ghost use Rattle.executor_core.specs.declared.request.State.TheVariants.{Executing, Canceling, Spent};
 
 use crate::answers::{Cancelling, Chosen, NotTaken};
+use crate::asked::Asked;
 use crate::call::{Call, Reply};
 use crate::chain::Chain;
 use crate::request::{Request, State};
-use crate::search::{instead, least_canceling, set_state_at, shut_all};
+use crate::search::{set_state_at, shut_all};
 use kj_base::{NoMemory, Outcome, StepId, Words};
 use std::alloc::Global;
 use std::marker::Model;
 
 /// Contracts see it as a `Desk`: its limit, whether it was closed, and its requests.
 ///
-/// The requests that wait for their start are linked, and so are those that the target runs: it finds its next request
-/// without going over any that has ended. None below `canceling_from` is to be told that it is to end.
+/// The requests that wait for their start are linked, and the numbers of those that were asked to end stand in a heap. A
+/// request enters it and leaves it at most once, so what a cancellation makes the target do later is logarithmic in the limit.
 #[derive(Drop)]
 pub struct Board {
     limit: u32,
     closed: bool,
     pub(crate) requests: Vec<Request>,
     waiting: Chain,
-    running: Chain,
-    canceling_from: usize,
+    asked: Asked,
 }
 
 impl Model for Board {
     ghost use Rattle.std.specs.Prelude.{◌≤◌, length, vec_capacity};
     ghost use Rattle.executor_core.specs.Acts.{Desk, desk};
-    ghost use Rattle.executor_core.specs.Chains.{Linked};
+    ghost use Rattle.executor_core.specs.Asks.{Linked};
 
     ghost Value = { Desk };
 
     ghost view = { λ b. desk b.limit b.closed b.requests.items };
 
-    ghost invariant = { λ b. (length b.requests.items ≤ b.limit) × (b.limit ≤ vec_capacity b.requests) × Linked b.limit b.requests.items b.waiting b.running b.canceling_from };
+    ghost invariant = { λ b. (length b.requests.items ≤ b.limit) × (b.limit ≤ vec_capacity b.requests) × Linked b.limit b.requests.items b.waiting b.asked };
 }
 
 impl Board {
@@ -50,8 +50,7 @@ impl Board {
             closed: false,
             requests: Vec::with_capacity(alloc, limit as usize)?,
             waiting: Chain::new(alloc, limit as usize)?,
-            running: Chain::new(alloc, limit as usize)?,
-            canceling_from: 0,
+            asked: Asked::new(alloc, limit as usize)?,
         })
     }
 
@@ -157,11 +156,7 @@ impl Board {
         requires { IsRunning self.old request }
         ensures { (self.new, Done) ≡ finished self.old request outcome }
     {
-        let at = request as usize;
-        let next = self.running.after(at);
-        self.canceling_from = instead(self.canceling_from, at, next);
-        self.running.remove(at);
-        set_state_at(&mut self.requests, at, State::Done(outcome));
+        set_state_at(&mut self.requests, request as usize, State::Done(outcome));
     }
 
     /// Withdraws a request that waits, or asks one that runs to end.
@@ -219,26 +214,24 @@ impl Board {
         &self.requests[request as usize]
     }
 
-    // It waits, or runs, as before.
+    // It waits, or may be asked to end, as before.
     fn set(&mut self, request: u32, state: State)
         requires { (q : Request) × (slice_get self.old.requests request ≡ Some q)
             × (queued_state state ≡ queued_state q.state)
-            × (running_state state ≡ running_state q.state) × (canceling_state state ≡ false) }
+            × (askable_state state ≡ askable_state q.state) × (canceling_state state ≡ false) }
         ensures { self.new ≡ with_state self.old request state }
     {
         set_state_at(&mut self.requests, request as usize, state);
     }
 
-    // The first that waits runs from now on.
+    // One that waits runs from now on.
     fn start(&mut self, request: u32)
-        requires { (marks queued_state self.old.requests request ≡ 1)
-            × ((k : ℕ) → k < request → marks queued_state self.old.requests k ≡ 0) }
+        requires { (q : Request) × (slice_get self.old.requests request ≡ Some q)
+            × (queued_state q.state ≡ true) }
         ensures { self.new ≡ with_state self.old request Executing }
     {
         let at = request as usize;
-        self.canceling_from = instead(self.canceling_from, self.running.bound(), at + 1);
         self.waiting.remove(at);
-        self.running.push(at);
         set_state_at(&mut self.requests, at, State::Executing);
     }
 
@@ -255,18 +248,18 @@ impl Board {
     // From now on the target is to be told that the request is to end.
     fn ask(&mut self, request: u32)
         requires { (q : Request) × (slice_get self.old.requests request ≡ Some q)
-            × (running_state q.state ≡ true) }
+            × (queued_state q.state ≡ false) × (askable_state q.state ≡ true) }
         ensures { self.new ≡ with_state self.old request Canceling }
     {
         let at = request as usize;
-        self.canceling_from = self.canceling_from.min(at);
+        self.asked.push(at);
         set_state_at(&mut self.requests, at, State::Canceling);
     }
 
     fn first_queued(&self) -> Option<u32>
         ensures value { result ≡ least is_queued self.now.requests }
-        ensures first { IfSome result (λ r. (marks queued_state self.now.requests r ≡ 1)
-            × ((k : ℕ) → k < r → marks queued_state self.now.requests k ≡ 0)) }
+        ensures waits { IfSome result (λ r. (q : Request)
+            × (slice_get self.now.requests r ≡ Some q) × (queued_state q.state ≡ true)) }
         ensures within { IfSome result (λ r. r < length self.now.requests) }
     {
         // Numbers of requests are below the limit, so they fit a `u32`.
@@ -284,15 +277,9 @@ impl Board {
     {
         // As above.
         let _limit = self.limit;
-        match least_canceling(self.requests.as_slice(), &self.running, self.canceling_from) {
-            Some(at) => {
-                self.canceling_from = at;
-                Some(at as u32)
-            }
-            None => {
-                self.canceling_from = self.running.bound();
-                None
-            }
+        match self.asked.least(self.requests.as_slice()) {
+            Some(at) => Some(at as u32),
+            None => None,
         }
     }
 }

@@ -1,6 +1,6 @@
 //! Numbers in their order, linked in place.
 ghost use Rattle.std.specs.Prelude.{◌≡◌, ◌+◌, ◌<◌, ◌≤◌, ℕ, length, IfOk, IfSome, IfNone};
-ghost use Rattle.executor_core.specs.Chains.{Marks, IsAfter, IsChain, Without, With, LinksLeft, LinksRight};
+ghost use Rattle.executor_core.specs.Chains.{Marks, IsChain, Without, With, LinksLeft, LinksRight};
 
 use kj_base::NoMemory;
 use std::alloc::Global;
@@ -47,21 +47,6 @@ impl Chain {
         } else {
             None
         }
-    }
-
-    pub(crate) fn bound(&self) -> usize
-        ensures { result ≡ self.now.bound }
-    {
-        self.bound
-    }
-
-    // The number after one of the set, or else the bound.
-    pub(crate) fn after(&self, at: usize) -> usize
-        requires { (w : Marks) × (limit : ℕ) × IsChain w limit self.now × (w at ≡ 1) }
-        ensures { (w : Marks) (limit : ℕ) → IsChain w limit self.now → w at ≡ 1
-            → IsAfter w self.now.bound at result }
-    {
-        self.after[at]
     }
 
     // Adds a number that is not below the bound.

@@ -4,6 +4,7 @@
 #![tactic(auto)]
 
 mod answers;
+mod asked;
 mod board;
 mod call;
 mod chain;

@@ -1,4 +1,4 @@
-//! Every row of the table of calls, on one board of five requests.
+//! Every row of the table of calls, and ends that are asked in an order that does not rise, on boards of five requests.
 ghost use Rattle.std.specs.Prelude.{◌≡◌, ◌<◌, ◌≤◌, ℕ, length, true, false, slice_get, Some, vec_capacity};
 ghost use Rattle.executor_core.specs.Acts.{MayAct, IsOwn, IsRunning, NoneRuns, running_state, spent_state};
 
@@ -150,14 +150,31 @@ fn start(request: u32, value: u64) -> Reply {
     }
 }
 
+fn finish(request: u32) -> Call {
+    Call::Finish {
+        request,
+        outcome: failed(2),
+    }
+}
+
+// Whether the board answers each call so, and the caller may make it.
+fn answers_so(board: &mut Board, rows: Vec<(u32, Call, Reply)>) -> bool {
+    for (caller, call, want) in rows {
+        if !board.may_act(caller, &call) {
+            return false;
+        }
+        let reply = board.act(caller, call);
+        if !is_same(&reply, &want) {
+            return false;
+        }
+    }
+    true
+}
+
 #[test]
 fn the_board_answers_by_the_table(rt: HostRuntime) -> Result<(), Fail> {
     let alloc = rt.alloc();
     let mut board = Board::new(alloc, 5)?;
-    let finish = |request| Call::Finish {
-        request,
-        outcome: failed(2),
-    };
     let rows = Vec::from_array(
         alloc,
         [
@@ -197,12 +214,50 @@ fn the_board_answers_by_the_table(rt: HostRuntime) -> Result<(), Fail> {
             (0, Call::Collect { request: 2 }, Reply::Ended(failed(2))),
         ],
     )?;
-    for (caller, call, want) in rows {
-        assert!(rt; board.may_act(caller, &call));
-        let reply = board.act(caller, call);
-        assert!(rt; is_same(&reply, &want));
-    }
+    assert!(rt; answers_so(&mut board, rows));
     assert!(rt; !board.may_act(1, &Call::Collect { request: 0 }) && !board.may_act(0, &finish(3)));
+    Ok(())
+}
+
+#[test]
+fn the_least_that_is_asked_is_told_first(rt: HostRuntime) -> Result<(), Fail> {
+    let alloc = rt.alloc();
+    let mut board = Board::new(alloc, 5)?;
+    let cancel = |request| Call::Cancel { request };
+    let rows = Vec::from_array(
+        alloc,
+        [
+            (1, submit(5), Reply::Ticket(0)),
+            (1, submit(6), Reply::Ticket(1)),
+            (1, submit(7), Reply::Ticket(2)),
+            (1, submit(8), Reply::Ticket(3)),
+            (1, submit(9), Reply::Ticket(4)),
+            (0, Call::Next, start(0, 5)),
+            (0, Call::Next, start(1, 6)),
+            (0, Call::Next, start(2, 7)),
+            (0, Call::Next, start(3, 8)),
+            (0, Call::Next, start(4, 9)),
+            (1, cancel(3), Reply::Asked),
+            (1, cancel(1), Reply::Asked),
+            (1, cancel(4), Reply::Asked),
+            (0, finish(1), Reply::Done),
+            (0, Call::Next, Reply::Stop(3)),
+            (1, cancel(2), Reply::Asked),
+            (1, cancel(0), Reply::Asked),
+            (0, Call::Next, Reply::Stop(0)),
+            (0, finish(2), Reply::Done),
+            (0, finish(0), Reply::Done),
+            (1, cancel(3), Reply::TooLate),
+            (0, Call::Next, Reply::Stop(4)),
+            (0, Call::Next, Reply::Empty),
+            (0, finish(4), Reply::Done),
+            (0, finish(3), Reply::Done),
+            (0, Call::Next, Reply::Empty),
+            (1, Call::Collect { request: 2 }, Reply::Ended(failed(2))),
+            (0, Call::Close, Reply::Done),
+        ],
+    )?;
+    assert!(rt; answers_so(&mut board, rows));
     Ok(())
 }
 

@@ -1,4 +1,5 @@
 use Rattle.std.proofs.Common.{arith, ap, sym, ◌<◌, ◌∙◌, length, subst, List}
+use Rattle.std.specs.Prelude.{slice_get}
 use Rattle.std.proofs.lemmas.Option.{slice_get_within}
 use Rattle.executor_core.specs.declared.request.Request.{Request}
 use Rattle.executor_core.specs.Acts.{Desk, is_queued, queued_state, least}
@@ -14,11 +15,9 @@ pub returns-in-Some-clause-value : goal.returns-in-Some-clause-value
 returns-in-Some-clause-value c = let b = c.self.inside in let rs : List Request = b.requests.items in let s = c.in-Some.ensures.some (marks queued_state rs) b.limit c.self.invariant.2.waits in let q = of_mark queued_state rs c.in-Some.at s.0 in
     sym (least_some is_queued rs c.in-Some.at q.0 q.1 q.2 (λ k x low at. no_mark queued_state rs k x (s.2 k low) at)) ∙ ap (λ (d : Desk). least is_queued d.requests) c.self.view_is
 
-pub returns-in-Some-clause-first : goal.returns-in-Some-clause-first
-returns-in-Some-clause-first c = let b = c.self.inside in let s = c.in-Some.ensures.some (marks queued_state b.requests.items) b.limit c.self.invariant.2.waits in (
-  ap (λ (d : Desk). marks queued_state d.requests c.in-Some.at) (sym c.self.view_is) ∙ s.0,
-  (λ k low. ap (λ (d : Desk). marks queued_state d.requests k) (sym c.self.view_is) ∙ s.2 k low),
-)
+pub returns-in-Some-clause-waits : goal.returns-in-Some-clause-waits
+returns-in-Some-clause-waits c = let b = c.self.inside in let rs : List Request = b.requests.items in let s = c.in-Some.ensures.some (marks queued_state rs) b.limit c.self.invariant.2.waits in let q = of_mark queued_state rs c.in-Some.at s.0 in
+    (q.0, ap (λ (d : Desk). slice_get d.requests c.in-Some.at) (sym c.self.view_is) ∙ q.1, q.2)
 
 pub returns-in-Some-clause-within : goal.returns-in-Some-clause-within
 returns-in-Some-clause-within c = let b = c.self.inside in let rs : List Request = b.requests.items in let s = c.in-Some.ensures.some (marks queued_state rs) b.limit c.self.invariant.2.waits in let q = of_mark queued_state rs c.in-Some.at s.0 in

@@ -1,7 +1,7 @@
 use Rattle.std.proofs.Common.{arith, ap, sym, refl, ◌≡◌, ◌∙◌, ◌∷◌, ◌++◌, [], length, length-append, subst, List, ℕ, ◌+◌}
 use Rattle.executor_core.specs.declared.request.Request.{Request}
 use Rattle.executor_core.specs.Acts.{new_request}
-use Rattle.executor_core.specs.Chains.{Linked}
+use Rattle.executor_core.specs.Asks.{Linked}
 use Rattle.executor_core.proofs.Links.{submit_linked, Adds}
 use Rattle.executor_core.proofs.board.Board.submit.Goals as goal
 
@@ -11,5 +11,5 @@ invariant_of-self c = let b = c.self.inside in let i = c.self.invariant in let r
     let adds : Adds b.waiting c.push.new.self (length rs) = subst (λ (n : ℕ). Adds b.waiting c.push.new.self n) count c.push.ensures.chain in (
       omega arith,
       omega arith,
-      subst (λ (x : List Request). Linked b.limit x c.push.new.self b.running b.canceling_from) (sym e) (submit_linked rs q refl b.limit b.waiting c.push.new.self b.running b.canceling_from i.2 adds (c.push.ensures.bound ∙ ap (λ (n : ℕ). n + 1) count)),
+      subst (λ (x : List Request). Linked b.limit x c.push.new.self b.asked) (sym e) (submit_linked rs q refl b.limit b.waiting c.push.new.self b.asked i.2 adds (c.push.ensures.bound ∙ ap (λ (n : ℕ). n + 1) count)),
     )
