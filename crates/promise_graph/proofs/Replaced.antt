@@ -1,5 +1,5 @@
 -- A tree takes the place of another.
-use Rattle.std.proofs.Common.{◌≡◌, ◌≢◌, ℕ, ◌<◌, List, [], ◌∷◌, Option, None, Some, Bool, true, false, cond, length, map, arith, refl, sym, ap, ◌∙◌, inl, inr, subst}
+use Rattle.std.proofs.Common.{◌≡◌, ◌≢◌, ℕ, ◌<◌, List, [], ◌∷◌, Option, None, Some, Bool, true, false, cond, length, arith, refl, sym, ap, ◌∙◌, inl, inr, subst}
 use Rattle.std.specs.Prelude.{◌==◌, ◌||◌, IsSome}
 use Rattle.std.proofs.lemmas.Bool.{cases_eq, false≢true}
 use Rattle.std.proofs.lemmas.Bool.Decides.{nat_tests}
@@ -9,7 +9,7 @@ use Rattle.kj_base.specs.Store.{KeepsOthers}
 use Rattle.kj_base.specs.declared.nodes.Node.{Node}
 use Rattle.kj_base.specs.declared.nodes.Link.{Link}
 use Rattle.kj_base.specs.declared.nodes.Form.{Form as FormCase}
-use Rattle.kj_model.specs.Nodes.{Content, Tree, Kept, Stage, Waits, Fired, Keeps, Gone, Form, Ready, Later, Last, Cell, Branch, Then, Chain, Eager, Wrap, Hub, Side, Race, Join, Task, Request, Entry as Seen, form_at, is_in, parts_of, owner_of, with_form, with_tree_renamed, renamed, renamed_if, renamed_tree, renamed_content, renamed_stage, renamed_form, content_parts, stage_parts}
+use Rattle.kj_model.specs.Nodes.{Tree, Kept, Waits, Fired, Keeps, Gone, Form, Ready, Later, Last, Cell, Branch, Then, Chain, Eager, Wrap, Hub, Side, Race, Join, Task, Request, Entry as Seen, form_at, is_in, parts_of, owner_of, with_form, with_tree_renamed, renamed, renamed_if, renamed_form}
 use Rattle.kj_model.specs.World.{World}
 use Rattle.kj_model.specs.Fire.{branches_of}
 use Rattle.promise_nodes.specs.Shown.{shown, SeesOwner}
@@ -19,10 +19,10 @@ use Rattle.promise_graph.specs.Slots.{number_of, number_at, Finds, slot_of}
 use Rattle.promise_graph.specs.Kept.{AreNumbered, IsKept, taker_at, is_taken, form_parts, is_same_kind}
 use Rattle.promise_graph.specs.Standing.{AreOnce, HasNodes, AreOwned, IsSeen, Stands}
 use Rattle.promise_graph.specs.Rows.{IsReplaced}
-use Rattle.promise_graph.proofs.Lists.{some_same, none_some, not_some}
+use Rattle.promise_graph.proofs.Lists.{some_same, none_some}
 use Rattle.promise_graph.proofs.Numbered.{slot_is}
 use Rattle.promise_graph.proofs.Falling.{taken_by, taken_out, untaken}
-use Rattle.promise_graph.proofs.Forms.{kind_kept, parts_any}
+use Rattle.promise_graph.proofs.Forms.{kind_kept}
 use Rattle.promise_graph.proofs.Entries.{put_nobody}
 use Rattle.promise_graph.proofs.Put.{node_of, number_same, slot_case}
 use Rattle.promise_graph.proofs.Owning.{here, there_case, owner_none, owner_took}
@@ -259,10 +259,10 @@ module _ (at new : ℕ → Option Node) (m last : Marks) (slot owner old tree : 
       | inl p ↦ f.takes t (l ∙ ap (λ (x : ℕ). Some x) p) ∙ by_node (λ s other. is_in j (form_parts other.form) ≡ true → owner ≡ other.number.0)
           (λ i. refl)
           (λ s other d e before i.
-              let took = o.owner_is s t j other before (sym (same_number t) ∙ l) i in
-              let free = untaken at m k t tree (sym (same_number t) ∙ l ∙ ap (λ (x : ℕ). Some x) p) f.root in
-              let positive = (k.given s other.number.0 (ap number_of before)).0 in
-              absurd (omega (arith, took, free, positive))) s other h i
+          let took = o.owner_is s t j other before (sym (same_number t) ∙ l) i in
+          let free = untaken at m k t tree (sym (same_number t) ∙ l ∙ ap (λ (x : ℕ). Some x) p) f.root in
+          let positive = (k.given s other.number.0 (ap number_of before)).0 in
+          absurd (omega (arith, took, free, positive))) s other h i
       | inr d ↦ other_tree t j l d ∙ by_node (λ s other. is_in j (form_parts other.form) ≡ true → taker_at m t ≡ other.number.0)
           (λ i. o.owner_is slot t j was.0 was.1 (sym (same_number t) ∙ l) (part_was j i d) ∙ was_number)
           (λ s other x e before i. o.owner_is s t j other before (sym (same_number t) ∙ l) i) s other h i
@@ -307,9 +307,9 @@ module _ (at new : ℕ → Option Node) (m last : Marks) (slot owner old tree : 
       let bs = branches_of (form_at owner es) in
       let found : form_at owner es ≡ Some (shown bs was.0.form) = subst (λ (j : ℕ). form_at j es ≡ Some (shown (branches_of (form_at j es)) was.0.form)) was_number (st.seen.nodes.there slot was.0 was.1) in
       let same : with_tree_renamed old tree es ≡ with_form owner (shown bs form) es = live_out (with_tree_renamed old tree es ≡ with_form owner (shown bs form) es) at m es k st.seen.nodes old live (λ t l.
-          only_owner (with_tree_renamed old tree es ≡ with_form owner (shown bs form) es) at m es link t old k st.seen.nodes st.owned l sees (λ x h only.
-          renamed_put old tree owner (shown bs was.0.form) es st.seen.nodes.once (λ b y g i. only b y g i ∙ is) found
-          ∙ ap (λ (y : Form). with_form owner y es) (sym (is_form bs)))) in
+      only_owner (with_tree_renamed old tree es ≡ with_form owner (shown bs form) es) at m es link t old k st.seen.nodes st.owned l sees (λ x h only.
+      renamed_put old tree owner (shown bs was.0.form) es st.seen.nodes.once (λ b y g i. only b y g i ∙ is) found
+      ∙ ap (λ (y : Form). with_form owner y es) (sym (is_form bs)))) in
       record {
         seen = subst (λ (l : List Seen). IsSeen new q' sp' last (record w { nodes = l })) (sym same) (seen_owners new q' sp' m last (put_form owner form w) f.same seen);
         owned = owned_swapped st.owned;

@@ -4,7 +4,7 @@ use Rattle.std.proofs.lemmas.List.{append_assoc}
 use Rattle.kj_base.specs.Places.{Spot, Row, row, spot_of, spot_as, row_as, IsOneToOne}
 use Rattle.kj_base.specs.declared.nodes.Node.{Node}
 use Rattle.promise_graph.specs.declared.fields.Marks.{Marks}
-use Rattle.promise_graph.specs.Slots.{number_at, Finds, slot_of}
+use Rattle.promise_graph.specs.Slots.{Finds, slot_of}
 use Rattle.promise_graph.specs.Kept.{AreNumbered}
 use Rattle.promise_graph.specs.Standing.{name_or, name_at, HasSpots}
 use Rattle.promise_graph.specs.Rows.{row_at, room_of}

@@ -1,5 +1,5 @@
 -- The laws of a keeper of nodes, for a graph.
-use Rattle.std.proofs.Common.{◌≡◌, ℕ, List, ◌∷◌, ◌++◌, Option, Bool, IsTrue, map, sym, subst}
+use Rattle.std.proofs.Common.{ℕ, List, ◌∷◌, ◌++◌, Option, Bool, IsTrue, map, sym, subst}
 use Rattle.std.proofs.lemmas.List.{map-append}
 use Rattle.kj_base.specs.Queue.{Events}
 use Rattle.kj_base.specs.Places.{Spot, Row, row}

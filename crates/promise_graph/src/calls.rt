@@ -2,7 +2,9 @@
 ghost use Rattle.std.specs.Prelude.{◌≡◌, ◌<◌, ◌≤◌, ◌+◌, ℕ, Option, Some, None};
 
 use crate::graph::Graph;
-use crate::{building, events, finding, fitting, freeing, hubs, own_set, owners, putting, replacing};
+use crate::{
+    building, events, finding, fitting, freeing, hubs, own_set, owners, putting, replacing,
+};
 use kj_base::{Form, Link, Queue, Store};
 use promise_nodes::{NodeRow, Nodes, Way};
 

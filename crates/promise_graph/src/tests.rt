@@ -77,6 +77,7 @@ fn uses_slots_again(rt: HostRuntime) -> Result<(), Fail> {
 #[test]
 fn replaces_a_tree(rt: HostRuntime) -> Result<(), Fail> {
     let mut graph = table_graph(rt.alloc(), 3)?;
+    assert!(rt; graph.next() < 2);
     assert!(rt; graph.fits(&[ANEW]));
     let old = graph.build(None, Form::Later);
     assert!(rt; graph.fits(&[ANEW]));
@@ -93,6 +94,7 @@ fn replaces_a_tree(rt: HostRuntime) -> Result<(), Fail> {
 #[test]
 fn keeps_its_own_set(rt: HostRuntime) -> Result<(), Fail> {
     let mut graph = table_graph(rt.alloc(), 2)?;
+    assert!(rt; graph.next() < 2);
     assert!(rt; graph.newest_task().is_none());
     assert!(rt; graph.fits(&[ANEW]));
     let first = graph.build(None, Form::Task { tree: None });

@@ -1,4 +1,4 @@
-use Rattle.std.proofs.Common.{◌≡◌, ◌∙◌, ◌<◌, List, [], ◌∷◌, ◌++◌, take, map, length, sym, ap, arith}
+use Rattle.std.proofs.Common.{◌∙◌, ◌<◌, List, [], ◌∷◌, ◌++◌, take, map, length, sym, ap, arith}
 use Rattle.std.proofs.lemmas.List.{take_more_set, map_push, map_more, length-set}
 use Rattle.kj_base.specs.Places.{Row}
 use Rattle.kj_base.specs.Store.{row_of, rows_of}
@@ -14,12 +14,11 @@ placing-preserved g c =
     let placed = c.placing.placed in
     let len = c.placing.invariant.0 in
     let low : at < length rows = c.placing-test.true in
-    let within : at < length placed = omega (arith, len, low, c.requires.few) in
-    (
+    let within : at < length placed = omega (arith, len, low, c.requires.few) in (
       length-set placed at c.placed_row.result ∙ len,
       ap rows_of (take_more_set placed at c.placed_row.result within)
-      ∙ map_push row_of (take at placed) c.placed_row.result
-      ∙ ap (λ (l : List Row). l ++ row_of c.placed_row.result ∷ []) c.placing.invariant.1
-      ∙ ap (λ (r : Row). map (row_at m) (rows_seen (take at rows)) ++ r ∷ []) c.placed_row.ensures
-      ∙ sym (ap (λ (l : List Row). map (row_at m) l) (map_more row_seen rows at _ low) ∙ map_push (row_at m) (map row_seen (take at rows)) _),
+          ∙ map_push row_of (take at placed) c.placed_row.result
+          ∙ ap (λ (l : List Row). l ++ row_of c.placed_row.result ∷ []) c.placing.invariant.1
+          ∙ ap (λ (r : Row). map (row_at m) (rows_seen (take at rows)) ++ r ∷ []) c.placed_row.ensures
+          ∙ sym (ap (λ (l : List Row). map (row_at m) l) (map_more row_seen rows at _ low) ∙ map_push (row_at m) (map row_seen (take at rows)) _),
     )

@@ -17,5 +17,5 @@ returns-clause-stands g c w st adds =
     record {
       seen = c.set_form.ensures.seen w st.seen;
       owned = subst (λ (x : Marks). AreOwned new x) (sym c.set_form.ensures.marks)
-      (owned_put at new m slot n c.args.form node old.0 c.requires.kept.sound.numbered c.requires.live refl refl old.1 c.set_form.ensures.changed c.set_form.ensures.nodes (c.requires.kind old.0 old.1) w.nodes st.seen.nodes (λ j i. adds j i) st.owned);
+          (owned_put at new m slot n c.args.form node old.0 c.requires.kept.sound.numbered c.requires.live refl refl old.1 c.set_form.ensures.changed c.set_form.ensures.nodes (c.requires.kind old.0 old.1) w.nodes st.seen.nodes (λ j i. adds j i) st.owned);
     }

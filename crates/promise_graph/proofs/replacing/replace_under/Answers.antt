@@ -2,7 +2,7 @@ use Rattle.std.proofs.Common.{◌∙◌, ap, refl, subst}
 use Rattle.promise_graph.specs.declared.fields.Marks.{Marks}
 use Rattle.promise_graph.specs.Kept.{IsKept, taker_at}
 use Rattle.promise_graph.specs.Standing.{IsSeen}
-use Rattle.promise_graph.proofs.Replaced.{Swapped, replaced_kind, kept_swapped, taken_swapped, stands_swapped}
+use Rattle.promise_graph.proofs.Replaced.{Swapped, kept_swapped, taken_swapped, stands_swapped}
 use Rattle.promise_nodes.specs.Kept.{put_form}
 use Rattle.promise_graph.proofs.replacing.replace_under.Goals as goal
 
