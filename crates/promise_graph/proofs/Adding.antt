@@ -1,6 +1,6 @@
 -- A node is built, and took its trees.
 use Rattle.std.proofs.Common.{◌≡◌, ◌≢◌, ℕ, ◌+◌, ◌-◌, ◌<◌, List, [], ◌∷◌, Option, None, Some, Bool, true, false, cond, not, length, map, arith, refl, sym, ap, ◌∙◌, inl, inr, subst}
-use Rattle.std.specs.Prelude.{nat_lt, IsSome, IsTrue, if◌then◌else◌}
+use Rattle.std.specs.Prelude.{nat_lt, ◌&&◌, IsSome, IsTrue, if◌then◌else◌}
 use Rattle.std.specs.List.{AllByRecursion}
 use Rattle.std.proofs.lemmas.Bool.{cases_eq, false≢true}
 use Rattle.std.proofs.lemmas.Bool.Decides.{nat_tests}
@@ -9,7 +9,7 @@ use Rattle.kj_base.specs.Places.{Spot, Row, row, spot_of, spot_as}
 use Rattle.kj_base.specs.Store.{rows_after, IsBareOrNone}
 use Rattle.kj_base.specs.declared.nodes.Node.{Node}
 use Rattle.kj_base.specs.declared.nodes.Form.{Form as FormCase}
-use Rattle.kj_model.specs.Nodes.{Form, is_in}
+use Rattle.kj_model.specs.Nodes.{Form, Entry as Seen, form_at, is_in}
 use Rattle.kj_model.specs.World.{World}
 use Rattle.kj_model.specs.Places.{placed_over, numbered, built}
 use Rattle.promise_nodes.specs.Shown.{shown}
@@ -17,8 +17,8 @@ use Rattle.promise_nodes.specs.Kept.{IsPart, AreRoots, AreBuilt, AreRowsBuilt, I
 use Rattle.promise_graph.specs.declared.fields.Marks.{Marks}
 use Rattle.promise_graph.specs.Slots.{number_of, number_at, IsAbsent, Finds, slot_of}
 use Rattle.promise_graph.specs.Rings.{next_at}
-use Rattle.promise_graph.specs.Kept.{AreNumbered, AreBare, IsSound, IsKept, taker_at, is_taken, is_taken_at, is_listed, is_plain, is_plain_at, is_plain_node, is_there, hub_of, form_parts}
-use Rattle.promise_graph.specs.Standing.{name_or, name_at, HasSpots, AreOwned, IsSeen, Stands}
+use Rattle.promise_graph.specs.Kept.{AreNumbered, AreBare, IsSound, IsKept, taker_at, is_taken, is_taken_at, is_listed, is_listed_at, is_plain, is_plain_at, is_plain_node, is_there, hub_of, form_parts}
+use Rattle.promise_graph.specs.Standing.{name_or, name_at, HasSpots, HasNodes, AreOwned, IsSeen, Stands}
 use Rattle.promise_graph.specs.Rows.{FindsBefore, name_before, slot_before, row_at, room_of, IsAdded}
 use Rattle.promise_graph.proofs.Lists.{some_same, none_some, not_some, equal_not, equal_yes, of_all, both, first_of_both}
 use Rattle.promise_graph.proofs.Numbered.{slot_live, slot_absent, slot_found, slot_is}
@@ -215,6 +215,20 @@ module _ (at new : ℕ → Option Node) (bare bare' : ℕ → Bool) (q q' : Even
 
   alone_here : next_at m.rings slot ≡ slot
   alone_here = f.kept.sound.single slot (let low = f.sound.numbered.low slot (subst (λ (o : Option ℕ). IsSome o) (sym here) refl) in omega (arith, low, f.added.slots_are)) f.added.was_free
+
+  -- no node had its number
+  pub anew_last : (es : List Seen) → HasNodes at m.rings es → form_at m.next es ≡ None
+  anew_last es has = has.absent m.next (λ s h. absurd (let low = (k.given s m.next h).1 in omega (arith, low)))
+
+  -- the new node stands in no ring
+  pub unlisted_last : is_listed new last m.next ≡ false
+  unlisted_last = ap (is_listed_at new last) (slot_live new last k' slot m.next here)
+      ∙ ap (λ (b : Bool). is_there (hub_of (new slot)) && not b) (equal_yes (next_at last.rings slot) slot (rings_last slot ∙ alone_here))
+      ∙ never (is_there (hub_of (new slot)))
+    where
+      never : (b : Bool) → (b && false) ≡ false
+      never true = refl
+      never false = refl
 
   pub listed_last : OnlyFalls (is_listed at m) (is_listed new last)
   listed_last n h = listed_out (is_listed at m n ≡ true) new last k' n h (λ s l b d.

@@ -19,3 +19,6 @@ pub mod Leaving
 pub mod Branches
 pub mod Joining
 pub mod Tasks
+pub mod Ruled
+pub mod Replaced
+pub mod Following

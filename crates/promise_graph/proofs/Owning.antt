@@ -16,10 +16,10 @@ use Rattle.promise_graph.proofs.Numbered.{slot_is}
 use Rattle.promise_graph.proofs.Forms.{parts_any}
 use Rattle.promise_graph.proofs.Put.{node_of}
 
-here : (e : Seen) (es : List Seen) → form_at e.number (e ∷ es) ≡ Some e.form
+pub here : (e : Seen) (es : List Seen) → form_at e.number (e ∷ es) ≡ Some e.form
 here e es = let t : (e.number == e.number) ≡ true = grind (arith, nat_tests) in rw t refl
 
-there_case : (b : Bool) (a : ℕ) (f : Form) (e : Seen) (es : List Seen) → (e.number == a) ≡ b → form_at e.number es ≡ None → form_at a es ≡ Some f → form_at a (e ∷ es) ≡ Some f
+pub there_case : (b : Bool) (a : ℕ) (f : Form) (e : Seen) (es : List Seen) → (e.number == a) ≡ b → form_at e.number es ≡ None → form_at a es ≡ Some f → form_at a (e ∷ es) ≡ Some f
 there_case true a f e es t n h = absurd (let same : e.number ≡ a = grind (arith, nat_tests) in none_some f (sym n ∙ ap (λ (k : ℕ). form_at k es) same ∙ h))
 there_case false a f e es t n h = rw t h
 

@@ -1,5 +1,5 @@
 -- The loop's own set, as nodes come and go.
-use Rattle.std.proofs.Common.{◌≡◌, ◌≢◌, ℕ, ◌+◌, ◌<◌, List, [], ◌∷◌, ◌++◌, Option, None, Some, Bool, true, false, cond, not, length, map, arith, refl, sym, ap, ◌∙◌, inl, inr, subst}
+use Rattle.std.proofs.Common.{◌≡◌, ◌≢◌, ℕ, ◌+◌, ◌<◌, List, [], ◌∷◌, ◌++◌, Option, None, Some, Bool, true, false, cond, not, map, arith, refl, sym, ap, ◌∙◌, inl, inr, subst}
 use Rattle.std.specs.Prelude.{◌==◌, ◌&&◌, ◌||◌, filter, find, reverse, is_some, nat_lt, unwrap_or, slice_index_or, if◌then◌else◌}
 use Rattle.std.specs.List.{AllByRecursion}
 use Rattle.std.proofs.lemmas.Bool.{cases_eq, false≢true}
@@ -14,7 +14,7 @@ use Rattle.promise_nodes.specs.Kept.{is_live, newest_task}
 use Rattle.promise_graph.specs.declared.fields.Marks.{Marks}
 use Rattle.promise_graph.specs.declared.fields.Rings.{Rings}
 use Rattle.promise_graph.specs.Slots.{number_of, number_at, IsAbsent, Finds, slot_of}
-use Rattle.promise_graph.specs.Rings.{next_at, prev_at, IsPath, IsRing, IsOut, AreApart, ArePaired, IsCut, IsJoined}
+use Rattle.promise_graph.specs.Rings.{next_at, prev_at, IsPath, IsOut, ArePaired, IsCut, IsJoined}
 use Rattle.promise_graph.specs.Kept.{AreNumbered, is_there}
 use Rattle.promise_graph.specs.Tasks.{is_given, HasTasks}
 use Rattle.promise_graph.specs.Standing.{HasNodes}
@@ -22,7 +22,7 @@ use Rattle.promise_graph.proofs.Lists.{some_same, none_some, equal_yes, equal_no
 use Rattle.promise_graph.proofs.Numbered.{one_slot, slot_live, slot_absent, slot_is, live_found}
 use Rattle.promise_graph.proofs.Renamed.{all_more}
 use Rattle.promise_graph.proofs.Put.{node_of}
-use Rattle.promise_graph.proofs.Cutting.{ring_without, alone_out, named_same, out_swap}
+use Rattle.promise_graph.proofs.Cutting.{ring_without, named_same}
 use Rattle.promise_graph.proofs.Leaving.{path_dropped, apart_dropped, map_dropped}
 use Rattle.promise_graph.proofs.Joining.{path_joined, apart_more}
 

@@ -6,3 +6,4 @@ pub mod Standing
 pub mod New
 pub mod Rows
 pub mod Named
+pub mod Laws

@@ -4,6 +4,8 @@ use Rattle.kj_base.specs.Places.{Spot, Row, row, spot_of}
 use Rattle.kj_base.specs.Store.{KeepsOthers}
 use Rattle.kj_base.specs.declared.nodes.Node.{Node}
 use Rattle.kj_base.specs.declared.nodes.Form.{Form as FormCase}
+use Rattle.kj_model.specs.Nodes.{renamed_form}
+use Rattle.promise_nodes.specs.Shown.{shown}
 use Rattle.promise_graph.specs.declared.fields.Marks.{Marks}
 use Rattle.promise_graph.specs.Slots.{number_at, Finds, slot_of}
 use Rattle.promise_graph.specs.Kept.{taker_at}
@@ -57,3 +59,7 @@ pub record IsAdded (at new : ℕ → Option Node) (bare bare' : ℕ → Bool) (m
   pub rings_are : m'.rings ≡ m.rings
   pub next_is : m'.next ≡ m.next + 1
   pub slots_are : m'.slots ≡ m.slots
+
+-- a form that is that of a node, with the tree new in place of old
+abbrev pub IsReplaced : Option Node → ℕ → ℕ → FormCase → Type 0
+IsReplaced o old new form = (node : Node) (branches : List ℕ) → o ≡ Some node → shown branches form ≡ renamed_form old new (shown branches node.form)

@@ -3,6 +3,7 @@ use Rattle.std.specs.Prelude.{◌≡◌, ◌<◌, ℕ, zero, suc, List, [], ◌�
 use Rattle.std.specs.List.{AllByRecursion}
 use Rattle.std.specs.List.Sorted.{IsPartitionPoint}
 use Rattle.kj_base.specs.declared.nodes.Node.{Node}
+use Rattle.kj_base.specs.declared.nodes.Link.{Link}
 use Rattle.promise_graph.specs.declared.index.Entry.{Entry}
 
 -- the numbers rise
@@ -40,6 +41,11 @@ IsAbsent at n = (s : ℕ) → number_at at s ≡ Some n → ⊥
 abbrev pub Finds : (ℕ → Option Node) → ℕ → Option ℕ → Type 0
 Finds at n None = IsAbsent at n
 Finds at n (Some s) = number_at at s ≡ Some n
+
+-- the node of a link is in its slot
+abbrev pub HasLink : (ℕ → Option Node) → Option Link → Type 0
+HasLink at None = Unit {0}
+HasLink at (Some link) = number_at at link.slot.0 ≡ Some link.number.0
 
 -- the next place, where there is one
 abbrev pub one_up : Option ℕ → Option ℕ

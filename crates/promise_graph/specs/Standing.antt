@@ -1,5 +1,5 @@
 -- The worlds that a graph stands for.
-use Rattle.std.specs.Prelude.{◌≡◌, ◌≢◌, ◌<◌, ℕ, zero, suc, ◌+◌, List, [], ◌∷◌, Option, None, Some, true, map, unwrap_or, IsSome}
+use Rattle.std.specs.Prelude.{◌≡◌, ◌≢◌, ◌<◌, ◌≤◌, ℕ, zero, suc, ◌+◌, List, [], ◌∷◌, Option, None, Some, true, map, length, unwrap_or, IsSome}
 use Rattle.std.specs.List.{AllByRecursion}
 use Rattle.std.proofs.Common.{subst, sym}
 use Rattle.kj_base.specs.Queue.{Events}
@@ -10,12 +10,12 @@ use Rattle.kj_model.specs.Nodes.{Entry as Seen, form_at, is_in}
 use Rattle.kj_model.specs.World.{World}
 use Rattle.kj_model.specs.Fire.{branches_of}
 use Rattle.promise_nodes.specs.Shown.{shown, link_number}
-use Rattle.promise_nodes.specs.Kept.{SameNodes, awaited_root, is_hub}
+use Rattle.promise_nodes.specs.Kept.{SameNodes, IsPlain, awaited_root, is_hub}
 use Rattle.promise_graph.specs.declared.fields.Marks.{Marks}
 use Rattle.promise_graph.specs.declared.fields.Rings.{Rings}
 use Rattle.promise_graph.specs.Slots.{number_at, IsAbsent}
 use Rattle.promise_graph.specs.Rings.{next_at, prev_at, IsRing, AreApart}
-use Rattle.promise_graph.specs.Kept.{form_parts, hub_of, taker_at, IsArmable}
+use Rattle.promise_graph.specs.Kept.{form_parts, hub_of, taker_at, is_plain, IsArmable}
 use Rattle.promise_graph.specs.Tasks.{HasTasks}
 
 -- ---- numbers in place of slots
@@ -95,6 +95,13 @@ pub record IsSeen (at : ℕ → Option Node) (q : Events) (sp : List Spot → Ty
 pub record Stands (at : ℕ → Option Node) (q : Events) (sp : List Spot → Type 0) (m : Marks) (w : World) : Type 0 where
   pub seen : IsSeen at q sp m w
   pub owned : AreOwned at m
+
+-- a graph stands for this world; and what follows where its marks are kept
+pub record StandsFor (at : ℕ → Option Node) (q : Events) (sp : List Spot → Type 0) (m : Marks) (w : World) : Type 0 where
+  pub stands : Stands at q sp m w
+  pub plain : (n : ℕ) → is_plain at m n ≡ true → IsPlain (form_at n w.nodes)
+  pub tasks : (n : ℕ) → is_in n w.detached ≡ true → n < m.next
+  pub few : (hub : ℕ) → length (branches_of (form_at hub w.nodes)) ≤ m.slots
 
 -- names don't matter
 pub stands_named : (at : ℕ → Option Node) (q : Events) (sp : List Spot → Type 0) (m : Marks) (w v : World) → SameNodes w v → Stands at q sp m w → Stands at q sp m v

@@ -3,6 +3,7 @@ ghost use Rattle.std.specs.Prelude.{◌≡◌, ◌≢◌, ◌<◌, ◌≤◌, �
 ghost use Rattle.kj_base.specs.Places.{Row, row};
 ghost use Rattle.kj_base.specs.Store.{slot_number, IsBareOrNone, rows_after};
 ghost use Rattle.kj_model.specs.World.{World};
+ghost use Rattle.kj_model.specs.Nodes.{form_at};
 ghost use Rattle.kj_model.specs.Places.{built};
 ghost use Rattle.promise_nodes.specs.Shown.{shown, link_number};
 ghost use Rattle.promise_nodes.specs.Kept.{IsPart, AreRoots, AreBuilt, AreRowsBuilt, RisesIn, OnlyFalls, OnlyRises, rows_left};
@@ -55,7 +56,7 @@ fn place_node<St: Store + Drop, Q: Queue + Drop>(
     requires owners { length g.old.marks.owners.items ≡ g.old.marks.slots }
     requires bare { IsBareOrNone (St.is_bare g.old.store) (slot_number before) }
     requires fits { IsTrue (St.room g.old.store (row (slot_number before) 1 ∷ [])) }
-    requires numbers { g.old.marks.next < 2 ^ 63 + 8 }
+    requires numbers { g.old.marks.next < 2 ^ 63 + 9 }
     requires room { vec_len g.old.marks.index < vec_capacity g.old.marks.index }
     ensures sound { IsSound (St.node_at g.new.store) (Q.events g.new.queue) (St.slots g.new.store) (Q.size g.new.queue) g.new.marks }
     ensures seen { (w : World) → IsSeen (St.node_at g.old.store) (Q.events g.old.queue) (St.stands g.old.store) g.old.marks w → IsSeen (St.node_at g.new.store) (Q.events g.new.queue) (St.stands g.new.store) g.new.marks (built (name_before (St.node_at g.old.store) (slot_number before)) (shown [] form) w) }
@@ -88,11 +89,13 @@ pub(crate) fn build<St: Store + Drop, Q: Queue + Drop>(
     requires roots { AreRoots (is_taken g.old.marks) (form_parts form) }
     requires built { AreBuilt g.old.marks.next (form_parts form) }
     requires fits { IsTrue (room_of (St.room g.old.store) g.old.marks (row (link_number before) 1 ∷ [])) }
-    requires numbers { g.old.marks.next < 2 ^ 63 + 8 }
+    requires numbers { g.old.marks.next < 2 ^ 63 + 9 }
     ensures kept { IsKept (St.node_at g.new.store) (St.is_bare g.new.store) (Q.events g.new.queue) (St.slots g.new.store) (Q.size g.new.queue) g.new.marks }
     ensures stands { (w : World) → Stands (St.node_at g.old.store) (Q.events g.old.queue) (St.stands g.old.store) g.old.marks w → Stands (St.node_at g.new.store) (Q.events g.new.queue) (St.stands g.new.store) g.new.marks (built (link_number before) (shown [] form) w) }
     ensures number { result.number.0 ≡ g.old.marks.next }
+    ensures anew { (w : World) → Stands (St.node_at g.old.store) (Q.events g.old.queue) (St.stands g.old.store) g.old.marks w → form_at g.old.marks.next w.nodes ≡ None }
     ensures root { is_taken g.new.marks result.number.0 ≡ false }
+    ensures unlisted { is_listed (St.node_at g.new.store) g.new.marks result.number.0 ≡ false }
     ensures next { g.new.marks.next ≡ g.old.marks.next + 1 }
     ensures slots { g.new.marks.slots ≡ g.old.marks.slots }
     ensures taken { RisesIn (form_parts form) (is_taken g.old.marks) (is_taken g.new.marks) }

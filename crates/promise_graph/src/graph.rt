@@ -3,7 +3,7 @@ ghost use Rattle.std.specs.Prelude.{◌≡◌, ◌<◌, ◌≤◌, ◌+◌, ℕ,
 ghost use Rattle.kj_base.specs.Queue.{no_events};
 ghost use Rattle.kj_base.specs.declared.numbers.Limits.{Limits};
 ghost use Rattle.kj_model.specs.World.{new_world};
-ghost use Rattle.promise_graph.specs.Standing.{Stands};
+ghost use Rattle.promise_graph.specs.Standing.{StandsFor};
 
 use crate::fields::Fields;
 use crate::making::new_marks;
@@ -38,7 +38,7 @@ impl<St: Store + Drop, Q: Queue + Drop> Graph<St, Q> {
         requires no_nodes { (s : ℕ) → St.node_at store s ≡ None }
         requires no_events { Q.events queue ≡ no_events }
         requires no_spots { St.stands store [] }
-        ensures stands { IfOk result (λ g. (all : Limits) → all.slots ≡ limits.slots → Stands (St.node_at g.store) (Q.events g.queue) (St.stands g.store) g.marks (new_world all)) }
+        ensures stands { IfOk result (λ g. (all : Limits) → all.slots ≡ limits.slots → StandsFor (St.node_at g.store) (Q.events g.queue) (St.stands g.store) g.marks (new_world all)) }
         ensures slots { IfOk result (λ g. g.marks.slots ≡ limits.slots) }
     {
         match new_marks(alloc, limits.slots) {

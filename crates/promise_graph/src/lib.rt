@@ -16,6 +16,7 @@ mod own_set;
 mod owners;
 mod parts;
 mod putting;
+mod replacing;
 mod rings;
 
 pub use fields::{Fields, Marks, Rings};

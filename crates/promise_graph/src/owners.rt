@@ -4,7 +4,7 @@ ghost use Rattle.kj_model.specs.World.{World};
 ghost use Rattle.kj_model.specs.Nodes.{owner_of, is_in};
 ghost use Rattle.promise_nodes.specs.Shown.{SeesOwner, run_from};
 ghost use Rattle.promise_nodes.specs.Kept.{IsLive};
-ghost use Rattle.promise_graph.specs.Slots.{number_at};
+ghost use Rattle.promise_graph.specs.Slots.{number_at, HasLink};
 ghost use Rattle.promise_graph.specs.Kept.{IsKept, AreNumbered, link_at, taker_at, is_taken};
 ghost use Rattle.promise_graph.specs.Standing.{Stands};
 
@@ -35,6 +35,7 @@ pub(crate) fn owner<St: Store + Drop, Q: Queue + Drop>(
     requires { IsKept (St.node_at g.now.store) (St.is_bare g.now.store) (Q.events g.now.queue) (St.slots g.now.store) (Q.size g.now.queue) g.now.marks }
     ensures owner { (w : World) → Stands (St.node_at g.now.store) (Q.events g.now.queue) (St.stands g.now.store) g.now.marks w → IsLive w node.number.0 → SeesOwner w.nodes result (owner_of node.number.0 w.nodes) }
     ensures root { is_taken g.now.marks node.number.0 ≡ false → result ≡ None }
+    ensures live { HasLink (St.node_at g.now.store) result }
 {
     let Some(slot) = find(g, node) else {
         return None;

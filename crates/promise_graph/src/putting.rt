@@ -6,7 +6,8 @@ ghost use Rattle.promise_nodes.specs.Shown.{shown};
 ghost use Rattle.promise_nodes.specs.Kept.{KeepsKind, AddsNone, put_form, is_hub, hub_of};
 ghost use Rattle.promise_graph.specs.Slots.{number_at};
 ghost use Rattle.promise_graph.specs.Kept.{IsKept, Falls, is_same_kind, is_there};
-ghost use Rattle.promise_graph.specs.Standing.{Stands};
+ghost use Rattle.promise_graph.specs.Standing.{IsSeen, Stands};
+ghost use Rattle.kj_base.specs.Store.{KeepsOthers};
 ghost use Rattle.kj_base.specs.declared.nodes.Node.{Node};
 
 use crate::fields::Fields;
@@ -37,14 +38,22 @@ fn is_same_kind(old: &Form, new: &Form) -> bool
     is_hub(old) == is_hub(new) && hub_of(old) == hub_of(new)
 }
 
-// The node in a slot has this form now, which is of its kind.
-fn put_in<St: Store + Drop, Q: Queue + Drop>(g: &mut Fields<St, Q>, slot: Slot, n: u64, form: Form)
+// The node in a slot has this form now, which is of its kind; nothing is said of who owns whom.
+pub(crate) fn set_form<St: Store + Drop, Q: Queue + Drop>(
+    g: &mut Fields<St, Q>,
+    slot: Slot,
+    n: u64,
+    form: Form,
+)
     requires kept { IsKept (St.node_at g.old.store) (St.is_bare g.old.store) (Q.events g.old.queue) (St.slots g.old.store) (Q.size g.old.queue) g.old.marks }
     requires live { number_at (St.node_at g.old.store) slot.0 ≡ Some n }
     requires kind { (node : Node) → St.node_at g.old.store slot.0 ≡ Some node → is_same_kind node.form form ≡ true }
     ensures kept { IsKept (St.node_at g.new.store) (St.is_bare g.new.store) (Q.events g.new.queue) (St.slots g.new.store) (Q.size g.new.queue) g.new.marks }
-    ensures stands { (w : World) → Stands (St.node_at g.old.store) (Q.events g.old.queue) (St.stands g.old.store) g.old.marks w → AddsNone w n (shown [] form) → Stands (St.node_at g.new.store) (Q.events g.new.queue) (St.stands g.new.store) g.new.marks (put_form n form w) }
+    ensures seen { (w : World) → IsSeen (St.node_at g.old.store) (Q.events g.old.queue) (St.stands g.old.store) g.old.marks w → IsSeen (St.node_at g.new.store) (Q.events g.new.queue) (St.stands g.new.store) g.new.marks (put_form n form w) }
     ensures falls { Falls (St.node_at g.old.store) (St.node_at g.new.store) g.old.marks g.new.marks }
+    ensures changed { St.node_at g.new.store slot.0 ≡ Some (record { number = record { 0 = n }; form = form }) }
+    ensures nodes { KeepsOthers (St.node_at g.old.store) (St.node_at g.new.store) slot.0 }
+    ensures marks { g.new.marks ≡ g.old.marks }
 {
     g.store.set(
         slot,
@@ -53,6 +62,18 @@ fn put_in<St: Store + Drop, Q: Queue + Drop>(g: &mut Fields<St, Q>, slot: Slot, 
             form,
         },
     );
+}
+
+// The node in a slot has this form now, which is of its kind and has no new tree.
+fn put_in<St: Store + Drop, Q: Queue + Drop>(g: &mut Fields<St, Q>, slot: Slot, n: u64, form: Form)
+    requires kept { IsKept (St.node_at g.old.store) (St.is_bare g.old.store) (Q.events g.old.queue) (St.slots g.old.store) (Q.size g.old.queue) g.old.marks }
+    requires live { number_at (St.node_at g.old.store) slot.0 ≡ Some n }
+    requires kind { (node : Node) → St.node_at g.old.store slot.0 ≡ Some node → is_same_kind node.form form ≡ true }
+    ensures kept { IsKept (St.node_at g.new.store) (St.is_bare g.new.store) (Q.events g.new.queue) (St.slots g.new.store) (Q.size g.new.queue) g.new.marks }
+    ensures stands { (w : World) → Stands (St.node_at g.old.store) (Q.events g.old.queue) (St.stands g.old.store) g.old.marks w → AddsNone w n (shown [] form) → Stands (St.node_at g.new.store) (Q.events g.new.queue) (St.stands g.new.store) g.new.marks (put_form n form w) }
+    ensures falls { Falls (St.node_at g.old.store) (St.node_at g.new.store) g.old.marks g.new.marks }
+{
+    set_form(g, slot, n, form);
 }
 
 // A node has this form now, where it is live and was of this kind before.

@@ -5,7 +5,7 @@ use crate::Graph;
 use event_list::EventList;
 use kj_base::{Form, Limits, NoMemory, NodeId, Outcome, Words};
 use node_table::NodeTable;
-use promise_nodes::{NodeRow, Way};
+use promise_nodes::{NodeRow, Nodes, Way};
 use std::alloc::Global;
 use std::test::Fail;
 
@@ -33,11 +33,11 @@ fn keeps_nodes(rt: HostRuntime) -> Result<(), Fail> {
     let mut graph = table_graph(rt.alloc(), 3)?;
     assert_eq!(rt; graph.slots(), 3);
     assert!(rt; graph.next() < 2);
-    assert!(rt; graph.fits(ANEW));
+    assert!(rt; graph.fits(&[ANEW]));
     let leaf = graph.build(None, Form::Later);
     assert_eq!(rt; leaf.number, NodeId(1));
     assert!(rt; graph.form(leaf).is_some());
-    assert!(rt; graph.fits(ANEW));
+    assert!(rt; graph.fits(&[ANEW]));
     let task = graph.build(None, Form::Task { tree: Some(leaf) });
     assert!(rt; graph.owner(leaf) == Some(task));
     assert!(rt; graph.owner(task).is_none());
@@ -61,9 +61,9 @@ fn uses_slots_again(rt: HostRuntime) -> Result<(), Fail> {
     let mut graph = table_graph(rt.alloc(), 1)?;
     for i in 0..5u64 {
         assert!(rt; graph.next() == i + 1);
-        assert!(rt; graph.fits(ANEW));
+        assert!(rt; graph.fits(&[ANEW]));
         let leaf = graph.build(None, Form::Last);
-        assert!(rt; !graph.fits(ANEW));
+        assert!(rt; !graph.fits(&[ANEW]));
         assert!(rt; graph.next_branch(leaf).is_none());
         assert!(rt; graph.first_branch(leaf).is_none());
         assert!(rt; !graph.is_unreferenced(leaf));
@@ -71,5 +71,39 @@ fn uses_slots_again(rt: HostRuntime) -> Result<(), Fail> {
         graph.drop_node(leaf);
         assert!(rt; graph.form(leaf).is_none());
     }
+    Ok(())
+}
+
+#[test]
+fn replaces_a_tree(rt: HostRuntime) -> Result<(), Fail> {
+    let mut graph = table_graph(rt.alloc(), 3)?;
+    assert!(rt; graph.next() < 2);
+    assert!(rt; graph.fits(&[ANEW]));
+    let old = graph.build(None, Form::Later);
+    assert!(rt; graph.fits(&[ANEW]));
+    let task = graph.build(None, Form::Task { tree: Some(old) });
+    assert!(rt; graph.fits(&[ANEW]));
+    assert!(rt; !graph.fits(&[ANEW, ANEW]));
+    let new = graph.build(None, Form::Last);
+    graph.replace(old, new);
+    assert!(rt; graph.owner(new) == Some(task));
+    assert!(rt; graph.owner(old).is_none());
+    Ok(())
+}
+
+#[test]
+fn keeps_its_own_set(rt: HostRuntime) -> Result<(), Fail> {
+    let mut graph = table_graph(rt.alloc(), 2)?;
+    assert!(rt; graph.next() < 2);
+    assert!(rt; graph.newest_task().is_none());
+    assert!(rt; graph.fits(&[ANEW]));
+    let first = graph.build(None, Form::Task { tree: None });
+    assert!(rt; graph.fits(&[ANEW]));
+    let second = graph.build(None, Form::Task { tree: None });
+    graph.enlist(first);
+    graph.enlist(second);
+    assert!(rt; graph.newest_task() == Some(second));
+    graph.delist(second);
+    assert!(rt; graph.newest_task() == Some(first));
     Ok(())
 }

@@ -5,8 +5,8 @@ use Rattle.kj_base.specs.Store.{slot_number}
 use Rattle.kj_model.specs.Nodes.{is_in}
 use Rattle.promise_nodes.specs.Shown.{link_number}
 use Rattle.promise_graph.specs.declared.fields.Marks.{Marks}
-use Rattle.promise_graph.specs.Kept.{taker_at, form_parts, is_taken}
-use Rattle.promise_graph.proofs.Adding.{Facts, sound_index, seen_index, added_index, before_slot_is, bare_before, kept_last, stands_last, taken_last, listed_last, plain_last, next_last, slots_last, root_last, rest_last}
+use Rattle.promise_graph.specs.Kept.{taker_at, form_parts, is_taken, is_listed}
+use Rattle.promise_graph.proofs.Adding.{Facts, sound_index, seen_index, added_index, before_slot_is, bare_before, kept_last, stands_last, taken_last, listed_last, plain_last, next_last, slots_last, root_last, rest_last, anew_last, unlisted_last}
 use Rattle.promise_graph.proofs.building.build.Goals as goal
 
 pub place_node-slot-requires : goal.place_node-slot-requires
@@ -21,7 +21,7 @@ place_node-slot-requires g c =
       owners = ap (λ (x : Marks). length x.owners.items) same ∙ kept.owned.all_owners ∙ sym (ap (λ (x : Marks). x.slots) same);
       bare = bare_before at _ m _ (link_number c.args.before) _ kept.sound.numbered kept.owned c.requires.before c.requires.roots found;
       fits = subst (λ (o : Option ℕ). IsTrue (g.St.Store.room c.args.g.now.store (row o 1 ∷ []))) (sym (before_slot_is at m kept.sound.numbered (link_number c.args.before) _ found)) c.requires.fits;
-      numbers = subst (λ (n : ℕ). n < 2 ^ 63 + 8) (sym (ap (λ (x : Marks). x.next) same)) c.requires.numbers;
+      numbers = subst (λ (n : ℕ). n < 2 ^ 63 + 9) (sym (ap (λ (x : Marks). x.next) same)) c.requires.numbers;
       room = c.make_room.ensures.room;
     }
 
@@ -54,6 +54,8 @@ returns g c =
       next = next_last at new _ _ _ _ _ _ _ _ m placed.marks last _ _ c.place_node-slot.result.0 c.args.form facts;
       slots = slots_last at new _ _ _ _ _ _ _ _ m placed.marks last _ _ c.place_node-slot.result.0 c.args.form facts;
       root = ap (is_taken last) next ∙ root_last at new _ _ _ _ _ _ _ _ m placed.marks last _ _ c.place_node-slot.result.0 c.args.form facts;
+      anew = λ w st. anew_last at new _ _ _ _ _ _ _ _ m placed.marks last _ _ c.place_node-slot.result.0 c.args.form facts w.nodes st.seen.nodes;
+      unlisted = ap (is_listed new last) next ∙ unlisted_last at new _ _ _ _ _ _ _ _ m placed.marks last _ _ c.place_node-slot.result.0 c.args.form facts;
       taken = taken_last at new _ _ _ _ _ _ _ _ m placed.marks last _ _ c.place_node-slot.result.0 c.args.form facts;
       listed = listed_last at new _ _ _ _ _ _ _ _ m placed.marks last _ _ c.place_node-slot.result.0 c.args.form facts;
       plain = plain_last at new _ _ _ _ _ _ _ _ m placed.marks last _ _ c.place_node-slot.result.0 c.args.form facts;

@@ -1,4 +1,4 @@
-use Rattle.std.proofs.Common.{◌≡◌, ℕ, ◌+◌, refl, subst}
+use Rattle.std.proofs.Common.{ℕ, refl, subst}
 use Rattle.promise_graph.specs.Rings.{ArePaired}
 use Rattle.promise_graph.proofs.Tasks.{tasks_cut}
 use Rattle.promise_graph.proofs.own_set.delist_slot.Goals as goal

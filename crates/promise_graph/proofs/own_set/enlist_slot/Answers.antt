@@ -1,8 +1,6 @@
-use Rattle.std.proofs.Common.{◌≡◌, ℕ, ◌+◌, ◌<◌, arith, refl, sym, subst}
+use Rattle.std.proofs.Common.{ℕ, ◌+◌, refl, subst}
 use Rattle.promise_graph.specs.Rings.{ArePaired}
-use Rattle.promise_graph.specs.Slots.{number_at}
-use Rattle.promise_graph.proofs.Lists.{is_some_of}
-use Rattle.promise_graph.proofs.Tasks.{tasks_listed, head_apart}
+use Rattle.promise_graph.proofs.Tasks.{tasks_listed}
 use Rattle.promise_graph.proofs.own_set.enlist_slot.Goals as goal
 
 pub returns : goal.returns

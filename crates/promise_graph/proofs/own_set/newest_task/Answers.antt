@@ -1,4 +1,4 @@
-use Rattle.std.proofs.Common.{◌≡◌, ◌∙◌, ap, ℕ, Some, None}
+use Rattle.std.proofs.Common.{◌∙◌, ap, ℕ, Some, None}
 use Rattle.std.specs.Prelude.{nat_lt, slice_index_or, if◌then◌else◌}
 use Rattle.promise_graph.proofs.Tasks.{newest_is}
 use Rattle.promise_graph.proofs.own_set.newest_task.Goals as goal

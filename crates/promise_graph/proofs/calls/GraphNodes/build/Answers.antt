@@ -1,0 +1,5 @@
+use Rattle.promise_graph.proofs.Following.{stands_for}
+use Rattle.promise_graph.proofs.calls.GraphNodes.build.Goals as goal
+
+pub returns-clause-stands : goal.returns-clause-stands
+returns-clause-stands g c w st = stands_for _ _ _ _ _ c.build.ensures.kept.sound.numbered (c.build.ensures.stands w (rw c.self.view_is st.stands))

@@ -1,0 +1,5 @@
+use Rattle.promise_graph.proofs.Following.{stands_for}
+use Rattle.promise_graph.proofs.calls.GraphNodes.delist.Goals as goal
+
+pub returns-clause-stands : goal.returns-clause-stands
+returns-clause-stands g c w st = stands_for _ _ _ _ _ c.delist.ensures.kept.sound.numbered (c.delist.ensures.stands w (rw c.self.view_is st.stands))

@@ -1,0 +1,5 @@
+use Rattle.promise_graph.proofs.Following.{stands_for}
+use Rattle.promise_graph.proofs.calls.GraphNodes.put.Goals as goal
+
+pub returns-clause-stands : goal.returns-clause-stands
+returns-clause-stands g c w st kind adds = stands_for _ _ _ _ _ c.put.ensures.kept.sound.numbered (c.put.ensures.stands w (rw c.self.view_is st.stands) kind adds)

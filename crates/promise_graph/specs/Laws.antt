@@ -1,0 +1,31 @@
+-- The laws of a keeper of nodes, for a graph.
+use Rattle.std.proofs.Common.{ℕ, List, ◌∷◌, ◌++◌, Option, Bool, IsTrue, map, sym, subst}
+use Rattle.std.proofs.lemmas.List.{map-append}
+use Rattle.kj_base.specs.Queue.{Events}
+use Rattle.kj_base.specs.Places.{Spot, Row, row}
+use Rattle.kj_base.specs.declared.nodes.Node.{Node}
+use Rattle.kj_model.specs.World.{World}
+use Rattle.promise_nodes.specs.Kept.{SameNodes}
+use Rattle.promise_graph.specs.declared.fields.Marks.{Marks}
+use Rattle.promise_graph.specs.Rows.{row_at, room_of}
+use Rattle.promise_graph.specs.Standing.{Stands, StandsFor, stands_named}
+
+-- names don't matter
+pub names_free : (at : ℕ → Option Node) (q : Events) (sp : List Spot → Type 0) (m : Marks) (w v : World) → SameNodes w v → StandsFor at q sp m w → StandsFor at q sp m v
+names_free at q sp m w v same st =
+    let st' = stands_named at q sp m w v same st.stands in
+    subst (λ (u : World). StandsFor at q sp m u) (sym same) (record { stands = subst (λ (u : World). Stands at q sp m u) same st'; plain = st.plain; tasks = st.tasks; few = st.few })
+
+-- rows may be left out
+pub left_out : (room : List Row → Bool) (m : Marks) → ((front : List Row) (left : Row) (back : List Row) → IsTrue (room (front ++ left ∷ back)) → IsTrue (room (front ++ back)))
+    → (front : List Row) (left : Row) (back : List Row) → IsTrue (room_of room m (front ++ left ∷ back)) → IsTrue (room_of room m (front ++ back))
+left_out room m law front left back h =
+    subst (λ (rows : List Row). IsTrue (room rows)) (sym (map-append (row_at m) front back))
+    (law (map (row_at m) front) (row_at m left) (map (row_at m) back) (subst (λ (rows : List Row). IsTrue (room rows)) (map-append (row_at m) front (left ∷ back)) h))
+
+-- a row of two may become a row of one
+pub one_of_two : (room : List Row → Bool) (m : Marks) → ((front : List Row) (before : Option ℕ) (back : List Row) → IsTrue (room (front ++ row before 2 ∷ back)) → IsTrue (room (front ++ row before 1 ∷ back)))
+    → (front : List Row) (before : Option ℕ) (back : List Row) → IsTrue (room_of room m (front ++ row before 2 ∷ back)) → IsTrue (room_of room m (front ++ row before 1 ∷ back))
+one_of_two room m law front before back h =
+    subst (λ (rows : List Row). IsTrue (room rows)) (sym (map-append (row_at m) front (row before 1 ∷ back)))
+    (law (map (row_at m) front) (row_at m (row before 2)).before (map (row_at m) back) (subst (λ (rows : List Row). IsTrue (room rows)) (map-append (row_at m) front (row before 2 ∷ back)) h))
