@@ -1,0 +1,5 @@
+pub mod Ground
+pub mod Events
+pub mod Outliving
+pub mod Left
+pub mod Stages
