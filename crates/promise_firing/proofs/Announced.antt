@@ -35,7 +35,7 @@ empty_few [] h = refl
 empty_few (m ∷ ms) h = absurd (omega (arith, h))
 
 -- a list that begins with this number
-Begins : ℕ → List ℕ → Type 0
+abbrev Begins : ℕ → List ℕ → Type 0
 Begins n l = (rest : List ℕ) × (l ≡ n ∷ rest)
 
 begins : (l : List ℕ) (n : ℕ) → first_of l ≡ Some n → Begins n l

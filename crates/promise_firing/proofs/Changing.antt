@@ -1,9 +1,11 @@
 -- One change after another.
-use Rattle.std.proofs.Common.{◌≡◌, List, Option, sym, ap, ◌∙◌, subst}
+use Rattle.std.proofs.Common.{◌≡◌, List, [], Option, refl, sym, ap, ◌∙◌, subst}
+use Rattle.std.proofs.lemmas.List.{append-nil}
 use Rattle.kj_model.specs.World.{World, State}
 use Rattle.kj_base.specs.Record.{Item}
 use Rattle.kj_model.specs.Changes.{silent}
 use Rattle.promise_walks.specs.Walks.{Does}
+use Rattle.promise_walks.proofs.Composed.{tells_none, does_then}
 
 -- a change that isn't told behind one that is, and what is left to do then
 pub does_silent : (A B C : World → Type 0) (f g h : State → State) (change : World → World) (a b : Option (List Item)) → Does A B f (λ s. s) a b
@@ -22,6 +24,22 @@ does_silent A B C f g h change a b d then = record {
       };
 }
 
+-- what is left to do then
+does_over : (A B : World → Type 0) (f g : State → State) (a b : Option (List Item)) → Does A B f (λ s. s) a b → Does A B (λ s. g (f s)) g a b
+does_over A B f g a b d = record {
+  items = d.items;
+  told = d.told;
+  moves = λ s stands. let r = d.moves s stands in record { state = r.state; stands = r.stands; past_is = r.past_is; ends = ap g r.ends };
+}
+
+-- one after the other
+pub does_both : (A B C : World → Type 0) (f g : State → State) (a b c : Option (List Item)) → Does A B f (λ s. s) a b → Does B C g (λ s. s) b c → Does A C (λ s. g (f s)) (λ s. s) a c
+does_both A B C f g a b c d e = does_then A B C (λ s. g (f s)) g (λ s. s) a b c (does_over A B f g a b d) e
+
 -- from fewer worlds
 pub does_less : (A B C : World → Type 0) (f g : State → State) (a b : Option (List Item)) → ((w : World) → B w → A w) → Does A C f g a b → Does B C f g a b
 does_less A B C f g a b less d = record { items = d.items; told = d.told; moves = λ s stands. d.moves s (less s.world stands) }
+
+-- nothing is done
+pub does_none : (A : World → Type 0) (a : Option (List Item)) → Does A A (λ s. s) (λ s. s) a a
+does_none A a = record { items = []; told = tells_none a; moves = λ s stands. record { state = s; stands = stands; past_is = sym (append-nil s.past); ends = refl } }

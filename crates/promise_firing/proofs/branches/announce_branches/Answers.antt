@@ -11,7 +11,7 @@ use Rattle.promise_firing.proofs.branches.announce_branches.Goals as goal
 
 pub announcing-init : goal.announcing-init
 announcing-init g c = record {
-  left = λ w stands live. all_left (g.N.Nodes.stands c.args.nodes.now) c.args.hub.number.0 w _ _ stands (c.first_branch.ensures w stands) (let few = g.met.N.Nodes.few_branches c.args.nodes.now w c.args.hub.number.0 stands in let slots = c.slots.ensures in omega (arith, few, slots));
+  left = λ w stands live. all_left (g.N.Nodes.stands c.args.nodes.now) c.args.hub.number.0 w _ _ stands (c.first_branch-at.ensures w stands) (let few = g.met.N.Nodes.few_branches c.args.nodes.now w c.args.hub.number.0 stands in let slots = c.slots-left.ensures in omega (arith, few, slots));
   taken = λ n h. h;
   plain = λ n h. h;
   next = refl;
@@ -32,7 +32,7 @@ announcing-preserved g c =
           let v = announced DepthFirst branch n.now in
           let st = done.stands n.now n.stands n.lives in
           let branches = ap (λ (nodes : List Entry). branches_of (form_at hub nodes)) (announced_nodes DepthFirst branch n.now ∙ n.nodes) ∙ n.branches in
-          announced_left Now Then hub w _ branch _ n st (c.next_branch.ensures v hub n.front n.back st branches);
+          announced_left Now Then hub w _ branch _ n st (c.next_branch-at.ensures v hub n.front n.back st branches);
       taken = λ n h. before.taken n (done.taken n h);
       plain = λ n h. done.plain n (before.plain n h);
       next = done.next ∙ before.next;

@@ -18,6 +18,6 @@ returns-clause-stands g c w both =
     let old = c.args.old.number.0 in
     let new = c.args.new.number.0 in
     let a = awaited_renamed old new w.awaited in
-    let root = root_is old new w.awaited ∙ ap (root_renamed old new) (c.nodes-awaited.ensures w both.0) ∙ sym c.renamed_awaited.ensures in
-    let name = same_name old new w.awaited ∙ c.names-awaited.ensures w both.1 in
-    (c.nodes-set_awaited.ensures.stands w a both.0 root, c.names-set_awaited.ensures.stands w a both.1 (sym name))
+    let root = root_is old new w.awaited ∙ ap (root_renamed old new) (c.awaited-awaited.ensures w both.0) ∙ sym c.renamed_awaited.ensures in
+    let name = same_name old new w.awaited ∙ sym (c.awaited-name.ensures w both.1) in
+    (c.set_awaited.ensures.stands w a both.0 root, c.set_awaited-2.ensures.stands w a both.1 name)
