@@ -43,3 +43,30 @@ does_less A B C f g a b less d = record { items = d.items; told = d.told; moves 
 -- nothing is done
 pub does_none : (A : World → Type 0) (a : Option (List Item)) → Does A A (λ s. s) (λ s. s) a a
 does_none A a = record { items = []; told = tells_none a; moves = λ s stands. record { state = s; stands = stands; past_is = sym (append-nil s.past); ends = refl } }
+
+-- nothing is done yet, of which this much is known
+pub does_more : (A B : World → Type 0) (f : State → State) (a : Option (List Item)) → ((w : World) → A w → B w) → Does A B f f a a
+does_more A B f a more = record { items = []; told = tells_none a; moves = λ s stands. record { state = s; stands = more s.world stands; past_is = sym (append-nil s.past); ends = refl } }
+
+-- a change after which this is left to do, and more is known
+pub does_on : (P A C Q : World → Type 0) (f g h : State → State) (a b : Option (List Item)) → ((w : World) → P w → A w) → Does A C f (λ s. s) a b → ((s : State) → P s.world → h (f s) ≡ g s) → ((s : State) → P s.world → C (f s).world → Q (f s).world) → Does P Q g h a b
+does_on P A C Q f g h a b less d same more = record {
+  items = d.items;
+  told = d.told;
+  moves = λ s p.
+      let r = d.moves s (less s.world p) in
+      record {
+        state = f s;
+        stands = more s p (subst (λ (t : State). C t.world) r.ends r.stands);
+        past_is = ap (λ (t : State). t.past) (sym r.ends) ∙ r.past_is;
+        ends = same s p;
+      };
+}
+
+-- nothing is left to do
+pub does_ends : (A P B : World → Type 0) (f g : State → State) (a b : Option (List Item)) → ((w : World) → P w → B w) → ((s : State) → P s.world → g s ≡ s) → Does A P f g a b → Does A B f (λ s. s) a b
+does_ends A P B f g a b less none d = record {
+  items = d.items;
+  told = d.told;
+  moves = λ s stands. let r = d.moves s stands in record { state = r.state; stands = less r.state.world r.stands; past_is = r.past_is; ends = sym (none r.state r.stands) ∙ r.ends };
+}

@@ -1,5 +1,5 @@
 -- What calls keep, one after another.
-use Rattle.std.proofs.Common.{◌≡◌, ℕ, ◌≤◌, sym, ◌∙◌, arith}
+use Rattle.std.proofs.Common.{◌≡◌, ℕ, ◌≤◌, refl, sym, ◌∙◌, arith}
 use Rattle.promise_nodes.specs.Kept.{OnlyFalls, OnlyRises}
 use Rattle.promise_firing.specs.Ground.{Ground, IsSound, Keeps}
 use Rattle.promise_firing.proofs.Replacing.{fallen}
@@ -43,3 +43,7 @@ keeps_then a b c p q = record {
   slots_are = q.slots_are ∙ p.slots_are;
   limit_is = q.limit_is ∙ p.limit_is;
 }
+
+-- nothing is called
+pub keeps_same : (a : Ground) → IsSound a → Keeps a a
+keeps_same a s = record { sound = s; plain = λ n h. h; next_is = refl; slots_are = refl; limit_is = refl }

@@ -1,5 +1,6 @@
 pub mod Announced
 pub mod Changing
+pub mod Emptied
 pub mod Fired
 pub mod Kept
 pub mod Lists

@@ -1,4 +1,5 @@
 pub mod Ground
+pub mod Closed
 pub mod Events
 pub mod Outliving
 pub mod Left

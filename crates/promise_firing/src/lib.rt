@@ -3,6 +3,7 @@
 
 mod branches;
 mod chain;
+mod closing;
 mod event;
 mod going;
 mod keeping;
@@ -13,6 +14,7 @@ mod task;
 
 pub use branches::keep_for_branches;
 pub use chain::end_chain;
+pub use closing::{close_detached, close_left_over};
 pub use event::{end_event, take_event};
 pub use keeping::keep_outcome;
 pub use owners::{Above, above_side};
