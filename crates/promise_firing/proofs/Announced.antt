@@ -1,9 +1,9 @@
 -- The way over the branches of a hub.
-use Rattle.std.proofs.Common.{◌≡◌, ◌∙◌, refl, sym, ap, subst, ℕ, suc, ◌≤◌, ◌+◌, ◌-◌, List, [], ◌∷◌, ◌++◌, Option, None, Some, Bool, true, false, IsSome, length, arith, append_assoc}
+use Rattle.std.proofs.Common.{◌≡◌, ◌∙◌, refl, sym, ap, subst, ℕ, ◌≤◌, ◌+◌, ◌-◌, List, [], ◌∷◌, ◌++◌, Option, None, Some, Bool, true, false, IsSome, length, arith, append_assoc}
 use Rattle.std.specs.Prelude.{nat_eq}
 use Rattle.std.proofs.lemmas.Bool.Decides.{nat_tests}
 use Rattle.kj_base.specs.Queue.{DepthFirst, Way, first_of}
-use Rattle.kj_model.specs.Nodes.{Entry, Form, form_at, is_in}
+use Rattle.kj_model.specs.Nodes.{Entry, form_at, is_in}
 use Rattle.kj_model.specs.World.{World}
 use Rattle.kj_model.specs.Changes.{arm_listener}
 use Rattle.kj_model.specs.Listening.{announced, listener}

@@ -1,14 +1,13 @@
 -- Trees that go one after another.
-use Rattle.std.proofs.Common.{◌≡◌, ◌∙◌, refl, sym, ap, subst, ℕ, zero, suc, ◌+◌, ◌<◌, ◌≤◌, List, [], ◌∷◌, ◌++◌, Option, None, Some, Bool, true, false, length, arith}
+use Rattle.std.proofs.Common.{◌≡◌, ◌∙◌, refl, sym, ap, subst, ℕ, zero, suc, ◌<◌, ◌≤◌, List, [], ◌∷◌, Option, None, Some, Bool, true, false, length, arith}
 use Rattle.std.specs.Prelude.{nat_eq, find, reverse, is_some, slice_get, cond, ◌||◌}
-use Rattle.std.specs.List.{list_any}
 use Rattle.std.proofs.lemmas.Bool.{false≢true}
 use Rattle.std.proofs.lemmas.Bool.Decides.{nat_tests}
 use Rattle.std.proofs.lemmas.List.{reverse-append}
 use Rattle.std.proofs.lemmas.List.Folds.{list_any-append}
 use Rattle.kj_model.specs.Nodes.{Entry, Form, form_at, is_in}
 use Rattle.kj_model.specs.World.{World, State, depth_of}
-use Rattle.kj_model.specs.Free.{Guard, Holding, free, free_to, free_form, each_freed}
+use Rattle.kj_model.specs.Free.{Guard, Holding, free_to, free_form, each_freed}
 use Rattle.kj_model.specs.Trees.{none_if}
 use Rattle.kj_model.specs.Falling.{some_staying, falling}
 use Rattle.kj_model.specs.Calls.{detached_closed}

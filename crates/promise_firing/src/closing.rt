@@ -26,7 +26,15 @@ fn close_tree<N: Nodes, M: Names, S: Steps>(
     ensures kept { Keeps (ground (N.is_taken nodes.old) (N.is_plain nodes.old) (N.next nodes.old) (N.slots nodes.old) (M.roots names.old) (M.count names.old) (M.limit names.old) (vec_capacity frames.old) (vec_capacity search.old)) (ground (N.is_taken nodes.new) (N.is_plain nodes.new) (N.next nodes.new) (N.slots nodes.new) (M.roots names.new) (M.count names.new) (M.limit names.new) (vec_capacity frames.new) (vec_capacity search.new)) }
     ensures over { M.over names.new ≡ M.over names.old }
 {
-    free_tree(nodes, names, frames, search, Guard::Holding(None), root, steps);
+    free_tree(
+        nodes,
+        names,
+        frames,
+        search,
+        Guard::Holding(None),
+        root,
+        steps,
+    );
 }
 
 // The tree at this place of those left over goes, where there is one.

@@ -32,7 +32,14 @@ fn announce_ready<N: Nodes>(nodes: &mut N, is_fast: bool, join: Link, first: Lin
 }
 
 /// The Side of an All has fired: it only counts, and who listens to the All is armed where no Side waits any more.
-pub fn count_side<N: Nodes>(nodes: &mut N, join: Link, first: Link, count: u8, side: Link, tree: Link)
+pub fn count_side<N: Nodes>(
+    nodes: &mut N,
+    join: Link,
+    first: Link,
+    count: u8,
+    side: Link,
+    tree: Link,
+)
     ensures stands { (w : World) → N.stands nodes.old w → form_at side.number.0 w.nodes ≡ Some (Side (Waits tree.number.0)) → IsLive w join.number.0 → N.stands nodes.new (all_fired join.number.0 (run_from count first.number.0) side.number.0 tree.number.0 w) }
     ensures taken { OnlyFalls (N.is_taken nodes.old) (N.is_taken nodes.new) }
     ensures plain { OnlyRises (N.is_plain nodes.old) (N.is_plain nodes.new) }

@@ -1,9 +1,8 @@
-use Rattle.std.proofs.Common.{◌≡◌, ◌∙◌, sym, ap, ℕ, List, subst, arith, ◌++◌, ◌∷◌, refl}
+use Rattle.std.proofs.Common.{◌≡◌, ◌∙◌, ap, ℕ, List, subst, arith, refl}
 use Rattle.kj_base.specs.Queue.{DepthFirst}
 use Rattle.kj_model.specs.Nodes.{Entry, form_at}
-use Rattle.kj_model.specs.Fire.{branches_of, branches_announced}
+use Rattle.kj_model.specs.Fire.{branches_of}
 use Rattle.kj_model.specs.Listening.{announced}
-use Rattle.promise_nodes.specs.Kept.{OnlyFalls, OnlyRises}
 use Rattle.promise_nodes.specs.Shown.{link_number}
 use Rattle.promise_firing.specs.Left.{AreLeft}
 use Rattle.promise_firing.proofs.Announced.{all_left, next_left, announced_left, left_none, left_zero, announced_nodes}

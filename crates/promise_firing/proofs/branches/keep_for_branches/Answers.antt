@@ -1,4 +1,4 @@
-use Rattle.std.proofs.Common.{◌∙◌, ℕ, Some, refl}
+use Rattle.std.proofs.Common.{◌∙◌, Some, refl}
 use Rattle.kj_model.specs.World.{World}
 use Rattle.kj_model.specs.Value.{freed}
 use Rattle.kj_model.specs.Fire.{keeps, kept_then, branches_announced}
@@ -21,11 +21,11 @@ returns-clause-does g c =
     let change : World → World = λ w. branches_announced n (keeps n o w) in
     does_silent P B C (freed t) (kept_then (branches_announced n) n t (Some o)) (λ s. s) change _ _ (does_less A P B (freed t) (λ s. s) _ _ (λ w h. h.0) c.free_part.ensures.does)
     (λ s stands mid.
-        let v = (freed t s).world in
-        let live = keeps_branches n o v (stands.1 s.past) in
-        let nodes = c.announce_branches.ensures.stands (keeps n o v) (c.keep.ensures.stands v mid.0) live in
-        let kept = g.met.M.Names.nodes_free c.free_part.new.names v (keeps n o v) (keeps_names n o v) mid.1 in
-        ((nodes, g.met.M.Names.nodes_free c.free_part.new.names (keeps n o v) (change v) (branches_names n (keeps n o v)) kept), refl))
+    let v = (freed t s).world in
+    let live = keeps_branches n o v (stands.1 s.past) in
+    let nodes = c.announce_branches.ensures.stands (keeps n o v) (c.keep.ensures.stands v mid.0) live in
+    let kept = g.met.M.Names.nodes_free c.free_part.new.names v (keeps n o v) (keeps_names n o v) mid.1 in
+    ((nodes, g.met.M.Names.nodes_free c.free_part.new.names (keeps n o v) (change v) (branches_names n (keeps n o v)) kept), refl))
 
 pub returns-clause-kept : goal.returns-clause-kept
 returns-clause-kept g c =

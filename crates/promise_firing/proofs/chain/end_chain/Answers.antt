@@ -1,4 +1,4 @@
-use Rattle.std.proofs.Common.{◌∙◌, sym, ap, ℕ, Some, refl, subst}
+use Rattle.std.proofs.Common.{◌∙◌, sym, Some, refl, subst}
 use Rattle.kj_model.specs.World.{World}
 use Rattle.kj_model.specs.Nodes.{Ready}
 use Rattle.kj_model.specs.Changes.{gone, put}
@@ -27,9 +27,9 @@ returns-in-Gave-clause-does g c =
     let change : World → World = λ w. listened n (put n (Ready o) w) in
     subst (λ (x : Given). Does (λ (w : World). A w × MayEnd n t (given_of x) w) C (chain_ended n t (Some (given_of x))) (λ s. s) (g.S.Steps.told c.args.steps.now) (g.S.Steps.told c.free_part.new.steps)) (sym c.in-Gave.is) (does_silent P B C (freed t) (chain_ended n t (Some (Gave o))) (λ s. s) change _ _ (does_less A P B (freed t) (λ s. s) _ _ (λ w h. h.0) c.free_part.ensures.does)
     (λ s stands mid.
-        let v = (freed t s).world in
-        let ready = put n (Ready o) v in
-        ((c.become_ready.ensures.stands v mid.0, g.met.M.Names.nodes_free c.free_part.new.names ready (change v) (listened_names n ready) (g.met.M.Names.nodes_free c.free_part.new.names v ready refl mid.1)), refl)))
+    let v = (freed t s).world in
+    let ready = put n (Ready o) v in
+    ((c.become_ready.ensures.stands v mid.0, g.met.M.Names.nodes_free c.free_part.new.names ready (change v) (listened_names n ready) (g.met.M.Names.nodes_free c.free_part.new.names v ready refl mid.1)), refl)))
 
 pub returns-in-Took-clause-does : goal.returns-in-Took-clause-does
 returns-in-Took-clause-does g c =
@@ -44,11 +44,11 @@ returns-in-Took-clause-does g c =
     let change : World → World = λ w. listened root (replaced n root w) in
     let first = does_silent P B C (freed t) (chain_ended n t (Some (Took root))) (gone n) change _ _ (does_less A P B (freed t) (λ s. s) _ _ (λ w h. h.0) c.free_part.ensures.does)
     (λ s stands mid.
-        let v = (freed t s).world in
-        let place = stands.1 s.past in
-        let u = replaced n root v in
-        let both = c.give_place.ensures.stands v mid place.lives place.place in
-        ((c.listen.ensures.stands u both.0, g.met.M.Names.nodes_free c.give_place.new.names u (change v) (listened_names root u) both.1), refl)) in
+    let v = (freed t s).world in
+    let place = stands.1 s.past in
+    let u = replaced n root v in
+    let both = c.give_place.ensures.stands v mid place.lives place.place in
+    ((c.listen.ensures.stands u both.0, g.met.M.Names.nodes_free c.give_place.new.names u (change v) (listened_names root u) both.1), refl)) in
     subst (λ (x : Given). Does (λ (w : World). A w × MayEnd n t (given_of x) w) D (chain_ended n t (Some (given_of x))) (λ s. s) (g.S.Steps.told c.args.steps.now) (g.S.Steps.told c.drop_plain.new.steps)) (sym c.in-Took.is)
     (does_then P C D (chain_ended n t (Some (Took root))) (gone n) (λ s. s) _ _ _ first c.drop_plain.ensures.does)
 

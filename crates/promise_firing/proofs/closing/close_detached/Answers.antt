@@ -1,6 +1,4 @@
-use Rattle.std.proofs.Common.{◌≡◌, ◌∙◌, ◌≤◌, ◌-◌, sym, ap, subst, ℕ, Option, Some, refl, arith, [], List}
-use Rattle.std.proofs.lemmas.List.{append-nil}
-use Rattle.kj_base.specs.Record.{Item}
+use Rattle.std.proofs.Common.{◌≡◌, ◌∙◌, ◌≤◌, ◌-◌, sym, ap, subst, ℕ, Some, refl, arith}
 use Rattle.kj_model.specs.World.{World, State}
 use Rattle.kj_model.specs.Calls.{detached_closed}
 use Rattle.promise_nodes.specs.Kept.{newest_task}

@@ -1,4 +1,4 @@
-use Rattle.std.proofs.Common.{◌∙◌, sym, ap, subst, ℕ, List, Option}
+use Rattle.std.proofs.Common.{◌∙◌, sym, ap, subst, ℕ, List}
 use Rattle.std.specs.Prelude.{slice_get}
 use Rattle.kj_model.specs.World.{World, State}
 use Rattle.kj_model.specs.Free.{each_freed}

@@ -1,6 +1,6 @@
 use Rattle.std.proofs.Common.{None, Some}
 use Rattle.kj_base.specs.declared.nodes.Stage.TheVariants.{Fired as FiredCase}
-use Rattle.kj_model.specs.Nodes.{Fired, Side, Race, Waits, form_at}
+use Rattle.kj_model.specs.Nodes.{Fired, Side, Waits, form_at}
 use Rattle.kj_model.specs.Changes.{put}
 use Rattle.promise_nodes.specs.Shown.{next_number}
 use Rattle.promise_firing.proofs.Fired.{side_kept, side_adds, race_kept, race_adds, race_stays}

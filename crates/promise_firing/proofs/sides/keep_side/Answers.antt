@@ -1,4 +1,4 @@
-use Rattle.std.proofs.Common.{◌∙◌, Some, refl}
+use Rattle.std.proofs.Common.{Some, refl}
 use Rattle.kj_model.specs.World.{World}
 use Rattle.kj_model.specs.Value.{freed}
 use Rattle.kj_model.specs.Fire.{keeps, kept_then, fast_announced}
@@ -6,7 +6,6 @@ use Rattle.promise_nodes.specs.Shown.{run_from}
 use Rattle.promise_walks.specs.Walks.{Both}
 use Rattle.promise_firing.specs.Outliving.{Outlives}
 use Rattle.promise_firing.proofs.Changing.{does_silent, does_less}
-use Rattle.promise_firing.proofs.Kept.{keeps_rest}
 use Rattle.promise_firing.proofs.Same.{fast_names, keeps_names, keeps_others}
 use Rattle.promise_firing.proofs.sides.keep_side.Goals as goal
 
@@ -25,9 +24,9 @@ returns-clause-does g c =
     let change : World → World = λ w. fast_announced was join sides (keeps n o w) in
     does_silent P B C (freed t) (kept_then (fast_announced was join sides) n t (Some o)) (λ s. s) change _ _ (does_less A P B (freed t) (λ s. s) _ _ (λ w h. h.0) c.free_part.ensures.does)
     (λ s stands mid.
-        let v = (freed t s).world in
-        let u = keeps n o v in
-        let live = keeps_others n join o v (stands.1 s.past) in
-        let nodes = c.announce_once.ensures.stands u (c.keep.ensures.stands v mid.0) live in
-        let kept = g.met.M.Names.nodes_free c.free_part.new.names v u (keeps_names n o v) mid.1 in
-        ((nodes, g.met.M.Names.nodes_free c.free_part.new.names u (change v) (fast_names was join sides u) kept), refl))
+    let v = (freed t s).world in
+    let u = keeps n o v in
+    let live = keeps_others n join o v (stands.1 s.past) in
+    let nodes = c.announce_once.ensures.stands u (c.keep.ensures.stands v mid.0) live in
+    let kept = g.met.M.Names.nodes_free c.free_part.new.names v u (keeps_names n o v) mid.1 in
+    ((nodes, g.met.M.Names.nodes_free c.free_part.new.names u (change v) (fast_names was join sides u) kept), refl))

@@ -1,6 +1,5 @@
-use Rattle.std.proofs.Common.{◌∙◌, sym, ℕ, None, Some}
-use Rattle.kj_base.specs.declared.outcomes.Outcome.{Outcome}
-use Rattle.kj_model.specs.World.{World, State}
+use Rattle.std.proofs.Common.{◌∙◌, sym, None, Some}
+use Rattle.kj_model.specs.World.{World}
 use Rattle.kj_model.specs.Nodes.{Task}
 use Rattle.kj_model.specs.Changes.{put, silent, gone}
 use Rattle.kj_model.specs.Value.{freed}
@@ -22,8 +21,10 @@ returns-clause-does g c setting o =
     let D : World → Type 0 = Both (g.N.Nodes.stands c.drop_plain.new.nodes) (g.M.Names.stands c.leave_set.new.names) in
     let change : World → World = λ w. without_left_over n (set_left n (put n (Task None) w)) in
     let first = does_silent A B C (freed t) (task_valued setting n t (Some o)) (gone n) change _ _ c.free_part.ensures.does
-    (λ s stands mid. (c.leave_set.ensures.stands (freed t s).world mid,
-    sym (task_left_is setting n o (silent (put n (Task None)) (freed t s)) (g.met.M.Names.no_tasks c.free_part.new.names (freed t s).world n mid.1)))) in
+    (λ s stands mid. (
+      c.leave_set.ensures.stands (freed t s).world mid,
+      sym (task_left_is setting n o (silent (put n (Task None)) (freed t s)) (g.met.M.Names.no_tasks c.free_part.new.names (freed t s).world n mid.1)),
+    )) in
     does_then A C D (task_valued setting n t (Some o)) (gone n) (λ s. s) _ _ _ first c.drop_plain.ensures.does
 
 pub returns-clause-kept : goal.returns-clause-kept

@@ -1,8 +1,8 @@
-use Rattle.std.proofs.Common.{◌≡◌, ◌∙◌, sym, ap, ℕ, Option, None, subst, refl}
-use Rattle.kj_model.specs.World.{World, Named}
+use Rattle.std.proofs.Common.{◌≡◌, ◌∙◌, sym, ap, Option, None, subst, refl}
+use Rattle.kj_model.specs.World.{Named}
 use Rattle.kj_model.specs.Nodes.{Task, dropped}
 use Rattle.kj_model.specs.Changes.{put}
-use Rattle.kj_model.specs.Fire.{group_of, group_left, set_left, without_left_over}
+use Rattle.kj_model.specs.Fire.{group_left, set_left, without_left_over}
 use Rattle.promise_nodes.specs.Kept.{without_detached}
 use Rattle.promise_names.specs.Held.{with_left_over}
 use Rattle.promise_firing.proofs.Lists.{dropped_last}
