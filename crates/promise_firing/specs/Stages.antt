@@ -7,14 +7,19 @@ use Rattle.kj_model.specs.Changes.{put, silent}
 use Rattle.kj_model.specs.Fire.{race_fired, join_fired, other_side, tree_freed}
 use Rattle.promise_nodes.specs.Kept.{IsLive}
 use Rattle.promise_nodes.specs.Shown.{node_number, next_number, run_from}
+use Rattle.promise_firing.specs.declared.owners.Joined.{Joined}
 use Rattle.promise_firing.specs.declared.owners.Above.{Above}
 use Rattle.promise_firing.specs.declared.owners.Above.TheVariants.{Nothing, Race as UnderRace, Join as UnderJoin}
+
+-- the Sides of a join
+abbrev pub sides_of : Joined → List ℕ
+sides_of joined = run_from joined.count joined.first.number.0
 
 -- what a Side does there that waits for this tree
 abbrev pub fired_under : Setting → Above → ℕ → ℕ → State → State
 fired_under setting Nothing side tree s = s
 fired_under setting (UnderRace race left winner) side tree s = race_fired race.number.0 left.number.0 (next_number left.number.0) (node_number winner) side tree s
-fired_under setting (UnderJoin join is_fast first count) side tree s = join_fired setting is_fast join.number.0 (run_from count first.number.0) side tree s
+fired_under setting (UnderJoin joined is_fast) side tree s = join_fired setting is_fast joined.join.number.0 (sides_of joined) side tree s
 
 -- a Side, or no node
 abbrev pub MayBeSide : Option Form → Type 0

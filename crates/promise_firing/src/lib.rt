@@ -17,7 +17,7 @@ pub use chain::end_chain;
 pub use closing::{close_detached, close_left_over};
 pub use event::{end_event, take_event};
 pub use keeping::keep_outcome;
-pub use owners::{Above, above_side};
+pub use owners::{Above, Joined, above_side};
 pub use races::win_race;
 pub use sides::{count_side, keep_side};
 pub use task::end_task;

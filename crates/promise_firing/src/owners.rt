@@ -10,8 +10,15 @@ ghost use Rattle.promise_firing.specs.Stages.{fired_under};
 use kj_base::{Form, Link, NodeId};
 use promise_nodes::Nodes;
 
-/// What owns a Side, and what its form tells. The second Side of a Race is the next node after the first, as those of a
-/// join are.
+/// A join with its Sides, whose numbers follow each other from the first one on.
+#[derive(Clone, Copy, Debug, PartialEq, Eq)]
+pub struct Joined {
+    pub join: Link,
+    pub first: Link,
+    pub count: u8,
+}
+
+/// What owns a Side, and what its form tells. The second Side of a Race is the next node after the first.
 #[derive(Clone, Copy, Debug, PartialEq, Eq)]
 pub enum Above {
     Nothing,
@@ -21,10 +28,8 @@ pub enum Above {
         winner: Option<NodeId>,
     },
     Join {
-        join: Link,
+        joined: Joined,
         is_fast: bool,
-        first: Link,
-        count: u8,
     },
 }
 
@@ -42,10 +47,12 @@ fn above_of(owner: Link, form: &Form) -> Above
             first,
             count,
         } => Above::Join {
-            join: owner,
+            joined: Joined {
+                join: owner,
+                first: *first,
+                count: *count,
+            },
             is_fast: *is_fast,
-            first: *first,
-            count: *count,
         },
         Form::Ready { .. } | Form::Later | Form::Last | Form::Cell { .. } => Above::Nothing,
         Form::Branch { .. } | Form::Then { .. } | Form::Chain { .. } => Above::Nothing,

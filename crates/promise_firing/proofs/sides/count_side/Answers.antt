@@ -9,4 +9,4 @@ pub returns-clause-stands : goal.returns-clause-stands
 returns-clause-stands g c w st waits live =
     let side = c.args.side.number.0 in
     let t = c.args.tree.number.0 in
-    c.announce_ready.ensures.stands (put side (Side (Fired t)) w) (c.put.ensures.stands w st (side_kept (FiredCase c.args.tree) (Waits t) (form_at side w.nodes) waits) (side_adds w side t waits)) (put_live side c.args.join.number.0 (Side (Fired t)) w live)
+    c.announce_ready.ensures.stands (put side (Side (Fired t)) w) (c.put.ensures.stands w st (side_kept (FiredCase c.args.tree) (Waits t) (form_at side w.nodes) waits) (side_adds w side t waits)) (put_live side c.args.joined.join.number.0 (Side (Fired t)) w live)

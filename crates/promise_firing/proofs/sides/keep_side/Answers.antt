@@ -2,9 +2,9 @@ use Rattle.std.proofs.Common.{Some, refl}
 use Rattle.kj_model.specs.World.{World}
 use Rattle.kj_model.specs.Value.{freed}
 use Rattle.kj_model.specs.Fire.{keeps, kept_then, fast_announced}
-use Rattle.promise_nodes.specs.Shown.{run_from}
 use Rattle.promise_walks.specs.Walks.{Both}
 use Rattle.promise_firing.specs.Outliving.{Outlives}
+use Rattle.promise_firing.specs.Stages.{sides_of}
 use Rattle.promise_firing.proofs.Changing.{does_silent, does_less}
 use Rattle.promise_firing.proofs.Same.{fast_names, keeps_names, keeps_others}
 use Rattle.promise_firing.proofs.sides.keep_side.Goals as goal
@@ -14,8 +14,8 @@ returns-clause-does g c =
     let n = c.args.side.number.0 in
     let t = c.args.tree.number.0 in
     let o = c.args.outcome in
-    let join = c.args.join.number.0 in
-    let sides = run_from c.args.count c.args.first.number.0 in
+    let join = c.args.joined.join.number.0 in
+    let sides = sides_of c.args.joined in
     let was = c.args.was_ready in
     let A : World → Type 0 = Both (g.N.Nodes.stands c.args.nodes.now) (g.M.Names.stands c.args.names.now) in
     let B : World → Type 0 = Both (g.N.Nodes.stands c.free_part.new.nodes) (g.M.Names.stands c.free_part.new.names) in
