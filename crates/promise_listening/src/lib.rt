@@ -7,4 +7,4 @@ mod ready;
 
 pub use above::listener;
 pub use arming::{announce, arm, keep, listen, settle};
-pub use ready::{is_last, is_ready};
+pub use ready::{is_join_ready, is_last, is_ready};

@@ -121,7 +121,8 @@ fn some_keeps_exception<N: Nodes>(nodes: &N, first: Link, count: u8) -> bool
     false
 }
 
-fn is_join_ready<N: Nodes>(nodes: &N, is_fast: bool, first: Link, count: u8) -> bool
+/// Whether a join of these Sides is ready.
+pub fn is_join_ready<N: Nodes>(nodes: &N, is_fast: bool, first: Link, count: u8) -> bool
     ensures { (w : World) → N.stands nodes.now w → result ≡ join_ready is_fast (run_from count first.number.0) w.nodes }
 {
     (is_fast && some_keeps_exception(nodes, first, count)) || !some_waits(nodes, first, count)

@@ -1,0 +1,10 @@
+pub mod Announced
+pub mod Changing
+pub mod Emptied
+pub mod Fired
+pub mod Kept
+pub mod Lists
+pub mod Replacing
+pub mod Same
+pub mod Tasks
+pub mod Unlisted

@@ -1,0 +1,59 @@
+-- Sides that fire, under a Race or a join.
+use Rattle.std.specs.Prelude.{◌≡◌, ℕ, List, Option, None, Some, ◌==◌}
+use Rattle.kj_base.specs.Record.{Item}
+use Rattle.kj_model.specs.Nodes.{Form, Stage, Waits, Fired, Keeps, Gone, Side, Race, form_at}
+use Rattle.kj_model.specs.World.{World, State, Setting}
+use Rattle.kj_model.specs.Changes.{put, silent}
+use Rattle.kj_model.specs.Fire.{race_fired, join_fired, other_side, tree_freed}
+use Rattle.promise_nodes.specs.Kept.{IsLive}
+use Rattle.promise_nodes.specs.Shown.{node_number, next_number, run_from}
+use Rattle.promise_firing.specs.declared.owners.Joined.{Joined}
+use Rattle.promise_firing.specs.declared.owners.Above.{Above}
+use Rattle.promise_firing.specs.declared.owners.Above.TheVariants.{Nothing, Race as UnderRace, Join as UnderJoin}
+
+-- the Sides of a join
+abbrev pub sides_of : Joined → List ℕ
+sides_of joined = run_from joined.count joined.first.number.0
+
+-- what a Side does there that waits for this tree
+abbrev pub fired_under : Setting → Above → ℕ → ℕ → State → State
+fired_under setting Nothing side tree s = s
+fired_under setting (UnderRace race left winner) side tree s = race_fired race.number.0 left.number.0 (next_number left.number.0) (node_number winner) side tree s
+fired_under setting (UnderJoin joined is_fast) side tree s = join_fired setting is_fast joined.join.number.0 (sides_of joined) side tree s
+
+-- a Side, or no node
+abbrev pub MayBeSide : Option Form → Type 0
+MayBeSide None = Unit {0}
+MayBeSide (Some (Side stage)) = Unit {0}
+MayBeSide other = ⊥
+
+-- the tree of each stage
+abbrev pub stage_tree : Stage → Option ℕ
+stage_tree (Waits tree) = Some tree
+stage_tree (Fired tree) = Some tree
+stage_tree (Keeps outcome) = None
+stage_tree Gone = None
+
+-- the tree of a Side, where it has one
+abbrev pub tree_of : Option Form → Option ℕ
+tree_of (Some (Side stage)) = stage_tree stage
+tree_of other = None
+
+-- the tree of a Side is freed, and nothing is left there
+abbrev pub side_emptied : ℕ → State → State
+side_emptied side s = silent (put side (Side Gone)) (tree_freed (form_at side s.world.nodes) s)
+
+-- the first Side of a Race has fired
+abbrev pub race_decided : ℕ → ℕ → ℕ → ℕ → World → World
+race_decided race left side tree w = put race (Race left (next_number left) (Some side)) (put side (Side (Fired tree)) w)
+
+-- the other Side of a Race of these two
+abbrev pub loser : ℕ → ℕ → ℕ
+loser left side = other_side (left == side) left (next_number left)
+
+-- the Race waits for its first Side; it still lives when the other's tree was freed
+pub record MayWin (race left side tree : ℕ) (w : World) : Type 0 where
+  pub waits : form_at side w.nodes ≡ Some (Side (Waits tree))
+  pub race_is : form_at race w.nodes ≡ Some (Race left (next_number left) None)
+  pub other : MayBeSide (form_at (loser left side) w.nodes)
+  pub outlives : (past : List Item) → IsLive (side_emptied (loser left side) (record { world = race_decided race left side tree w; past = past })).world race

@@ -1,0 +1,23 @@
+//! What an event does once its tree was evaluated, over any keeper of nodes and any keeper of names.
+#![tactic(auto)]
+
+mod branches;
+mod chain;
+mod closing;
+mod event;
+mod going;
+mod keeping;
+mod owners;
+mod races;
+mod sides;
+mod task;
+
+pub use branches::keep_for_branches;
+pub use chain::end_chain;
+pub use closing::{close_detached, close_left_over};
+pub use event::{end_event, take_event};
+pub use keeping::keep_outcome;
+pub use owners::{Above, Joined, above_side};
+pub use races::win_race;
+pub use sides::{count_side, keep_side};
+pub use task::end_task;
