@@ -1,0 +1,4 @@
+pub mod Agreeing
+pub mod Lefts
+pub mod Orders
+pub mod Sorting
