@@ -62,7 +62,7 @@ tie_is s a = by (cases_lt s a) (cases_lt a s)
 
 mine_ties : (step : ℕ) (es : List Entry) → AllByRecursion IsLeftHere es → mine step es ≡ map (λ (e : Entry). action_of e.body.now.action) (filter (ties by_step (probe step)) es)
 mine_ties step [] fresh = refl
-mine_ties step (e ∷ es) fresh = by (cases_Bool (step_of e == step))
+mine_ties step (e ∷ es) fresh = by (mine_ties step es fresh.1) (cases_Bool (step_of e == step))
   where
     rest : List Entry
     rest = filter (ties by_step (probe step)) es
@@ -70,9 +70,9 @@ mine_ties step (e ∷ es) fresh = by (cases_Bool (step_of e == step))
     chosen : (b : Bool) → (step_of e == step) ≡ b → map (λ (x : Entry). action_of x.body.now.action) (cond b (e ∷ rest) rest) ≡ map (λ (x : Entry). action_of x.body.now.action) (cond (ties by_step (probe step) e) (e ∷ rest) rest)
     chosen b is = ap (λ (t : Bool). map (λ (x : Entry). action_of x.body.now.action) (cond t (e ∷ rest) rest)) (sym is ∙ sym (tie_is step (step_of e)))
 
-    by : ((step_of e == step) ≡ true) ⊎ ((step_of e == step) ≡ false) → mine step (e ∷ es) ≡ map (λ (x : Entry). action_of x.body.now.action) (cond (ties by_step (probe step) e) (e ∷ rest) rest)
-    by (inl here) = mine_here step e es fresh.0 here ∙ ap (λ (l : List Action). action_of e.body.now.action ∷ l) (mine_ties step es fresh.1) ∙ chosen true here
-    by (inr other) = mine_other step e es other ∙ mine_ties step es fresh.1 ∙ chosen false other
+    by : mine step es ≡ map (λ (x : Entry). action_of x.body.now.action) rest → ((step_of e == step) ≡ true) ⊎ ((step_of e == step) ≡ false) → mine step (e ∷ es) ≡ map (λ (x : Entry). action_of x.body.now.action) (cond (ties by_step (probe step) e) (e ∷ rest) rest)
+    by more (inl here) = mine_here step e es fresh.0 here ∙ ap (λ (l : List Action). action_of e.body.now.action ∷ l) more ∙ chosen true here
+    by more (inr other) = mine_other step e es other ∙ more ∙ chosen false other
 
 -- ---- the two forms of what holds of each entry
 
