@@ -8,7 +8,7 @@ ghost use Rattle.promise_commands.specs.Scripts.{body_of};
 ghost use Rattle.promise_steps.specs.Items.{item_of};
 ghost use Rattle.promise_steps.specs.Order.{given_of};
 ghost use Rattle.promise_steps.specs.Following.{Follows, Prints};
-ghost use Rattle.promise_steps.specs.Kept.{told_by, items_of, IsKept};
+ghost use Rattle.promise_steps.specs.Kept.{told_by, begun_of, items_of, IsKept};
 
 use crate::order::{Entry, order_of, take_next};
 use crate::told::{Told, print_told};
@@ -56,8 +56,8 @@ fn action_given(body: Option<&Body>) -> Action
 
 // Tells one more item; silent from then on where there is no room.
 fn keep<'a>(kept: &mut Kept<'a>, item: Told<'a>)
-    ensures order { kept.new.order ≡ kept.old.order }
-    ensures began { kept.new.began ≡ kept.old.began }
+    ensures order { kept.new.order.items ≡ kept.old.order.items }
+    ensures begun { begun_of kept.new ≡ begun_of kept.old }
     ensures told { IsTrue kept.new.whole → IsTrue kept.old.whole × (items_of kept.new ≡ items_of kept.old ++ item_of item.entry ∷ []) }
 {
     let pushed = kept.items.push(item).is_ok();
