@@ -1,26 +1,28 @@
 -- Records that agree with bodies.
-use Rattle.std.proofs.Common.{◌≡◌, ◌⊎◌, ℕ, zero, suc, ◌+◌, List, [], ◌∷◌, ◌++◌, map, Option, None, Some, Bool, true, false, ◌==◌, refl, sym, ap, ◌∙◌, subst, inl, inr, arith, append_assoc, append-nil}
+use Rattle.std.proofs.Common.{◌≡◌, ◌⊎◌, ℕ, suc, List, [], ◌∷◌, ◌++◌, map, Some, true, false, ◌==◌, refl, sym, ap, ◌∙◌, subst, inl, inr, arith, append_assoc, append-nil}
 use Rattle.std.proofs.lemmas.Bool.{cases_Bool}
 use Rattle.std.proofs.lemmas.Bool.Decides.{nat_tests}
 use Rattle.kj_base.specs.Commands.{Action}
-use Rattle.kj_base.specs.Record.{Item, Run, Free, Tells}
+use Rattle.kj_base.specs.Record.{Item, Run, Free}
 use Rattle.kj_base.specs.declared.outcomes.Outcome.{Outcome}
 use Rattle.kj_model.specs.Log.{Body, scripted, passing, at_or_last, bodies_of, runs_of, Told as ToldLine}
 use Rattle.kj_model.specs.Text.{log_text}
 use Rattle.promise_commands.specs.Answers.{Answer, Agrees}
 use Rattle.promise_steps.specs.Order.{IsLeft}
-use Rattle.promise_steps.specs.Following.{coming, since, Follows, Printed, Prints}
+use Rattle.promise_steps.specs.Following.{coming, since, Printed, Prints}
 
 -- one run more, with the action that was answered
 pub agrees_more : (answer : Answer) (past items : List Item) (n step : ℕ) (input : Outcome) (action : Action)
     → Agrees answer past items → answer (past ++ items) step ≡ Some action → Agrees answer past (items ++ Run n step input action ∷ [])
 agrees_more answer past [] n step input action so same = (subst (λ (xs : List Item). answer xs step ≡ Some action) (append-nil past) same, tt)
-agrees_more answer past (Run m s i a ∷ items) n step input action so same =
-    (so.0, agrees_more answer (past ++ Run m s i a ∷ []) items n step input action so.1
-      (subst (λ (xs : List Item). answer xs step ≡ Some action) (sym (append_assoc past (Run m s i a ∷ []) items)) same))
+agrees_more answer past (Run m s i a ∷ items) n step input action so same = (
+  so.0,
+  agrees_more answer (past ++ Run m s i a ∷ []) items n step input action so.1
+      (subst (λ (xs : List Item). answer xs step ≡ Some action) (sym (append_assoc past (Run m s i a ∷ []) items)) same),
+)
 agrees_more answer past (Free m ∷ items) n step input action so same =
     agrees_more answer (past ++ Free m ∷ []) items n step input action so
-      (subst (λ (xs : List Item). answer xs step ≡ Some action) (sym (append_assoc past (Free m ∷ []) items)) same)
+    (subst (λ (xs : List Item). answer xs step ≡ Some action) (sym (append_assoc past (Free m ∷ []) items)) same)
 
 -- one free more
 pub agrees_freed : (answer : Answer) (past items : List Item) (n : ℕ) → Agrees answer past items → Agrees answer past (items ++ Free n ∷ [])
@@ -32,12 +34,14 @@ agrees_freed answer past (Free m ∷ items) n so = agrees_freed answer (past ++ 
 pub agrees_after : (left bodies : List Body) (past done items : List Item)
     → IsLeft left bodies past → Agrees (scripted left) done items → Agrees (scripted bodies) (past ++ done) items
 agrees_after left bodies past done [] is so = tt
-agrees_after left bodies past done (Run n s i a ∷ items) is so =
-    (sym (is done s) ∙ so.0, subst (λ (xs : List Item). Agrees (scripted bodies) xs items) (sym (append_assoc past done (Run n s i a ∷ [])))
-      (agrees_after left bodies past (done ++ Run n s i a ∷ []) items is so.1))
+agrees_after left bodies past done (Run n s i a ∷ items) is so = (
+  sym (is done s) ∙ so.0,
+  subst (λ (xs : List Item). Agrees (scripted bodies) xs items) (sym (append_assoc past done (Run n s i a ∷ [])))
+      (agrees_after left bodies past (done ++ Run n s i a ∷ []) items is so.1),
+)
 agrees_after left bodies past done (Free n ∷ items) is so =
     subst (λ (xs : List Item). Agrees (scripted bodies) xs items) (sym (append_assoc past done (Free n ∷ [])))
-      (agrees_after left bodies past (done ++ Free n ∷ []) items is so)
+    (agrees_after left bodies past (done ++ Free n ∷ []) items is so)
 
 -- what is left of the bodies that were left
 pub left_twice : (now left bodies : List Body) (past items : List Item) → IsLeft now left items → IsLeft left bodies past → IsLeft now bodies (past ++ items)
@@ -93,7 +97,8 @@ prints left now items old new agrees is grown bodies past more last follows told
     subst (λ (xs : List Item). Printed bodies past xs (Some (since now [])) old new) same.1 (record {
       agrees = subst (λ (xs : List Item). Agrees (scripted bodies) xs items) (append-nil past) (agrees_after left bodies past [] items before agrees);
       follows = record { left = now; told_is = refl; is_left = left_twice now left bodies past items is before };
-      text = grown })
+      text = grown;
+    })
   where
     whole : Some (since follows.left []) ≡ Some told.0
     whole = sym follows.told_is ∙ told.1

@@ -10,14 +10,10 @@ use Rattle.kj_model.specs.Text.{log_text}
 use Rattle.promise_commands.specs.Answers.{Agrees}
 use Rattle.promise_steps.specs.Order.{InOrder, left_of, IsLeft}
 use Rattle.promise_steps.specs.Following.{coming, since, Prints}
-use Rattle.promise_steps.specs.Kept.{begun_of, items_of, told_if, told_by, IsKept}
+use Rattle.promise_steps.specs.Kept.{begun_of, items_of, told_if, told_by, Grows, IsKept}
 use Rattle.promise_steps.specs.declared.kept.Kept.{Kept}
 use Rattle.promise_steps.specs.declared.order.Entry.{Entry}
 use Rattle.promise_steps.proofs.Agreeing.{agrees_more, agrees_freed, left_twice, left_freed, prints}
-
--- where all is kept now, all was kept before, and one item came
-abbrev pub Grows : Kept → Kept → Item → Type 0
-Grows old new item = IsTrue new.whole → IsTrue old.whole × (items_of new ≡ items_of old ++ item ∷ [])
 
 told_grows : (was is : Bool) (left : List Body) (old new : List Item) (item : Item) → (IsTrue is → IsTrue was × (new ≡ old ++ item ∷ []))
     → Tells (told_if was (since left old)) (item ∷ []) (told_if is (since left new))
@@ -36,36 +32,36 @@ pub kept_run : (old new : Kept) (n step : ℕ) (input : Outcome) (action : Actio
     → IsLeft (left_of new.order.items) (left_of old.order.items) (Run n step input action ∷ [])
     → begun_of new ≡ begun_of old → Grows old new (Run n step input action) → IsKept new
 kept_run old new n step input action kept order gives left begun grown = record {
-    in_order = order;
-    agrees = λ whole.
+  in_order = order;
+  agrees = λ whole.
       let g = grown whole in
       let asked : scripted (begun_of old) (items_of old) step ≡ Some action =
-          ap (λ (xs : List Item). scripted (begun_of old) xs step) (sym (append-nil (items_of old))) ∙ sym (kept.is_left g.0 [] step) ∙ gives in
+      ap (λ (xs : List Item). scripted (begun_of old) xs step) (sym (append-nil (items_of old))) ∙ sym (kept.is_left g.0 [] step) ∙ gives in
       subst (λ (l : List Body). Agrees (scripted l) [] (items_of new)) (sym begun)
       (subst (λ (xs : List Item). Agrees (scripted (begun_of old)) [] xs) (sym g.1)
       (agrees_more (scripted (begun_of old)) [] (items_of old) n step input action (kept.agrees g.0) asked));
-    is_left = λ whole.
+  is_left = λ whole.
       let g = grown whole in
       subst (λ (l : List Body). IsLeft (left_of new.order.items) l (items_of new)) (sym begun)
       (subst (λ (xs : List Item). IsLeft (left_of new.order.items) (begun_of old) xs) (sym g.1)
       (left_twice (left_of new.order.items) (left_of old.order.items) (begun_of old) (items_of old) (Run n step input action ∷ []) left (kept.is_left g.0)));
-  }
+}
 
 pub kept_freed : (old new : Kept) (n : ℕ) → IsKept old → new.order.items ≡ old.order.items → begun_of new ≡ begun_of old → Grows old new (Free n) → IsKept new
 kept_freed old new n kept order begun grown = record {
-    in_order = subst InOrder (sym order) kept.in_order;
-    agrees = λ whole.
+  in_order = subst InOrder (sym order) kept.in_order;
+  agrees = λ whole.
       let g = grown whole in
       subst (λ (l : List Body). Agrees (scripted l) [] (items_of new)) (sym begun)
       (subst (λ (xs : List Item). Agrees (scripted (begun_of old)) [] xs) (sym g.1)
       (agrees_freed (scripted (begun_of old)) [] (items_of old) n (kept.agrees g.0)));
-    is_left = λ whole.
+  is_left = λ whole.
       let g = grown whole in
       subst (λ (es : List Entry). IsLeft (left_of es) (begun_of new) (items_of new)) (sym order)
       (subst (λ (l : List Body). IsLeft (left_of old.order.items) l (items_of new)) (sym begun)
       (subst (λ (xs : List Item). IsLeft (left_of old.order.items) (begun_of old) xs) (sym g.1)
       (left_twice (left_of old.order.items) (left_of old.order.items) (begun_of old) (items_of old) (Free n ∷ []) (left_freed (left_of old.order.items) n) (kept.is_left g.0))));
-  }
+}
 
 pub drained : (whole : Bool) (left now after : List Body) (items rest : List Item) (old new : List ℕ) → whole ≡ true → after ≡ now → rest ≡ []
     → Agrees (scripted left) [] items → IsLeft now left items → new ≡ old ++ log_text (map ToldLine items)

@@ -3,7 +3,7 @@ use Rattle.std.proofs.Common.{◌≡◌, ◌⊎◌, ◌<◌, ◌≤◌, ◌||◌
 use Rattle.std.specs.Prelude.{nat_lt, is_some}
 use Rattle.std.specs.Borrow.{Bor}
 use Rattle.std.specs.List.{AllByRecursion}
-use Rattle.std.specs.List.Sorted.{IsPartitionedBy, IsPartitionPoint}
+use Rattle.std.specs.List.Sorted.{IsPartitionedBy}
 use Rattle.std.proofs.lemmas.Bool.{cases_Bool, cases_lt, false≢true}
 use Rattle.std.proofs.lemmas.Bool.Decides.{nat_tests}
 use Rattle.std.proofs.lemmas.List.{take-append-drop, take-set, drop-set}
@@ -211,7 +211,6 @@ module _ (step p : ℕ) (xs : List Entry) (e : Entry) (body : Bor BodyCase)
     (within : p < length xs) (here : drop p xs ≡ e ∷ drop (p + 1) xs)
     (order : InOrder xs) (before : AllBefore step (take p xs)) (after : AllAfter step (drop p xs))
     (some : next_of step (drop p xs) ≡ Some body) where
-
   split : xs ≡ take p xs ++ e ∷ drop (p + 1) xs
   split = sym (take-append-drop p xs) ∙ ap (λ (l : List Entry). take p xs ++ l) here
 
@@ -241,5 +240,5 @@ module _ (step p : ℕ) (xs : List Entry) (e : Entry) (body : Bor BodyCase)
           let not_here : (step_of e == other) ≡ false = subst (λ (s : ℕ). (s == other) ≡ false) (sym is_of_step) apart in
           ap (mine other) set
           ∙ mine_front other (take p xs) (done e ∷ drop (p + 1) xs) (e ∷ drop (p + 1) xs)
-            (mine_other other (done e) (drop (p + 1) xs) not_here ∙ sym (mine_other other e (drop (p + 1) xs) not_here))
+          (mine_other other (done e) (drop (p + 1) xs) not_here ∙ sym (mine_other other e (drop (p + 1) xs) not_here))
           ∙ ap (mine other) (sym split)

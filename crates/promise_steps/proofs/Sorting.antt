@@ -1,7 +1,5 @@
 -- A stable sort by steps keeps what each step has to come.
-use Rattle.std.proofs.Common.{◌≡◌, ◌⊎◌, ◌<◌, ◌≤◌, ◌&&◌, ℕ, zero, suc, ◌+◌, List, [], ◌∷◌, ◌++◌, map, filter, cond, not, length, get_or, Some, Bool, true, false, ◌==◌, refl, sym, ap, ◌∙◌, subst, inl, inr, arith}
-use Rattle.std.specs.Prelude.{nat_lt}
-use Rattle.std.specs.Borrow.{Bor}
+use Rattle.std.proofs.Common.{◌≡◌, ◌⊎◌, ◌<◌, ◌≤◌, ◌&&◌, ℕ, zero, suc, List, [], ◌∷◌, map, filter, cond, not, length, get_or, Some, Bool, true, false, ◌==◌, refl, sym, ap, ◌∙◌, inl, inr, arith}
 use Rattle.std.specs.List.{AllByRecursion, All}
 use Rattle.std.specs.List.Sorted.{IsNonDecreasingBy, IsPermutation, IsStableByKey, ties}
 use Rattle.std.specs.Ordering.{nat_cmp, is_lt}
@@ -12,15 +10,14 @@ use Rattle.std.proofs.lemmas.Bool.{cases_Bool, cases_lt, false≢true}
 use Rattle.std.proofs.lemmas.Bool.Decides.{nat_tests}
 use Rattle.std.proofs.lemmas.List.Sorted.{All-permutation}
 use Rattle.kj_base.specs.Commands.{Action}
-use Rattle.kj_base.specs.Record.{Item}
 use Rattle.kj_base.specs.declared.actions.Ending.TheVariants.{Input}
-use Rattle.kj_model.specs.Log.{Body, scripted, passing, at_or_last, runs_of, bodies_of}
+use Rattle.kj_model.specs.Log.{Body, passing, at_or_last, runs_of, bodies_of}
 use Rattle.promise_commands.specs.Commands.{action_of}
 use Rattle.promise_commands.specs.Scripts.{body_of}
 use Rattle.promise_commands.specs.declared.script.Body.{Body as BodyCase}
 use Rattle.promise_steps.specs.declared.order.Entry.{Entry}
 use Rattle.promise_steps.specs.Order.{step_of, Precedes, InOrder, left_of, IsLeft}
-use Rattle.promise_steps.proofs.Lefts.{mine, with_taken, mine_other, mine_here}
+use Rattle.promise_steps.proofs.Lefts.{mine, mine_other, mine_here}
 
 -- no run took it
 abbrev pub IsLeftHere : Entry → Type 0
@@ -95,9 +92,10 @@ first_precedes e (f ∷ es) low fresh =
 
 pub sorted_in_order : (xs : List Entry) → IsNonDecreasingBy step_of xs → AllByRecursion IsLeftHere xs → InOrder xs
 sorted_in_order [] rises fresh = tt
-sorted_in_order (e ∷ xs) rises fresh =
-    (first_precedes e xs (λ j d within. rises zero (suc j) d (omega arith) (omega (arith, within))) fresh.1,
-      sorted_in_order xs (λ i j d low within. rises (suc i) (suc j) d (omega (arith, low)) (omega (arith, within))) fresh.1)
+sorted_in_order (e ∷ xs) rises fresh = (
+  first_precedes e xs (λ j d within. rises zero (suc j) d (omega arith) (omega (arith, within))) fresh.1,
+  sorted_in_order xs (λ i j d low within. rises (suc i) (suc j) d (omega (arith, low)) (omega (arith, within))) fresh.1,
+)
 
 pub sorted_left : (xs ys : List Entry) (bodies : List BodyCase) → map (λ (e : Entry). e.body.now) xs ≡ bodies → IsStableByKey step_of nat_cmp xs ys
     → AllByRecursion IsLeftHere xs → AllByRecursion IsLeftHere ys → IsLeft (left_of ys) (map body_of bodies) []

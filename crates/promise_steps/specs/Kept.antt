@@ -1,5 +1,5 @@
 -- What steps tell, and what always holds of them.
-use Rattle.std.specs.Prelude.{◌≡◌, List, [], Option, None, Some, Bool, true, false, map}
+use Rattle.std.specs.Prelude.{◌≡◌, List, [], ◌∷◌, ◌++◌, IsTrue, Option, None, Some, Bool, true, false, map}
 use Rattle.kj_base.specs.Record.{Item}
 use Rattle.kj_model.specs.Log.{Body, scripted}
 use Rattle.promise_commands.specs.Answers.{Agrees}
@@ -24,6 +24,10 @@ told_if false items = None
 -- what steps tell
 abbrev pub told_by : Kept → Option (List Item)
 told_by kept = told_if kept.whole (since (begun_of kept) (items_of kept))
+
+-- where all is kept now, all was kept before, and one item came
+abbrev pub Grows : Kept → Kept → Item → Type 0
+Grows old new item = IsTrue new.whole → IsTrue old.whole × (items_of new ≡ items_of old ++ item ∷ [])
 
 -- the bodies are in order, and where all was kept, the runs had the bodies of the last printing, and those still to come are left of them
 pub record IsKept (kept : Kept) : Type 0 where

@@ -1,5 +1,5 @@
 -- The bodies of a script by their steps, and those that are still to come.
-use Rattle.std.specs.Prelude.{◌≡◌, ◌≤◌, ◌||◌, ◌&&◌, ◌==◌, nat_lt, ℕ, List, [], ◌∷◌, ◌++◌, Option, None, Some, Bool, true, false, not, cond, map, filter}
+use Rattle.std.specs.Prelude.{◌≡◌, ◌≤◌, ◌||◌, ◌&&◌, ◌==◌, nat_lt, ℕ, List, [], ◌∷◌, ◌++◌, Option, None, Some, Bool, true, not, cond, map, filter}
 use Rattle.std.specs.List.{AllByRecursion}
 use Rattle.std.specs.Borrow.{Bor}
 use Rattle.kj_base.specs.Record.{Item}

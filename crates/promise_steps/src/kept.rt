@@ -8,7 +8,7 @@ ghost use Rattle.promise_commands.specs.Scripts.{body_of};
 ghost use Rattle.promise_steps.specs.Items.{item_of};
 ghost use Rattle.promise_steps.specs.Order.{given_of};
 ghost use Rattle.promise_steps.specs.Following.{Follows, Prints};
-ghost use Rattle.promise_steps.specs.Kept.{told_by, begun_of, items_of, IsKept};
+ghost use Rattle.promise_steps.specs.Kept.{told_by, begun_of, Grows, IsKept};
 
 use crate::order::{Entry, order_of, take_next};
 use crate::told::{Told, print_told};
@@ -17,8 +17,8 @@ use promise_commands::{Action, Bodies, Body, Commands};
 use std::alloc::Global;
 use std::snapshot::Snapshot;
 
-/// The bodies in order, how they stood at the last printing, and what was told since; `whole` is false once there was
-/// no room to keep something.
+/// What contracts see of the steps of a script: the bodies in order, how they stood at the last printing, and what was
+/// told since; `whole` is false once there was no room to keep something.
 #[derive(Drop)]
 pub struct Kept<'a> {
     pub order: Vec<Entry<'a>>,
@@ -58,21 +58,17 @@ fn action_given(body: Option<&Body>) -> Action
 fn keep<'a>(kept: &mut Kept<'a>, item: Told<'a>)
     ensures order { kept.new.order.items ≡ kept.old.order.items }
     ensures begun { begun_of kept.new ≡ begun_of kept.old }
-    ensures told { IsTrue kept.new.whole → IsTrue kept.old.whole × (items_of kept.new ≡ items_of kept.old ++ item_of item.entry ∷ []) }
+    ensures told { Grows kept.old kept.new (item_of item.entry) }
 {
     let pushed = kept.items.push(item).is_ok();
     kept.whole = kept.whole & pushed;
 }
 
-pub(crate) fn run<'a>(
-    kept: &mut Kept<'a>,
-    node: NodeId,
-    step: StepId,
-    input: &Outcome,
-) -> Action
+pub(crate) fn run<'a>(kept: &mut Kept<'a>, node: NodeId, step: StepId, input: &Outcome) -> Action
     requires { IsKept kept.old }
     ensures kept { IsKept kept.new }
-    ensures told { Tells (told_by kept.old) (Run node.0 step.0 input.now (action_of result) ∷ []) (told_by kept.new) }
+    ensures told { Tells (told_by kept.old) (Run node.0 step.0 input.now (action_of result) ∷ [])
+        (told_by kept.new) }
 {
     let body = take_next(&mut kept.order, step);
     keep(

@@ -19,10 +19,7 @@ pub struct Entry<'a> {
 }
 
 /// The bodies by rising steps, those of one step as they stand in the script.
-pub(crate) fn order_of<'a>(
-    alloc: Global,
-    bodies: &'a [Body],
-) -> Result<Vec<Entry<'a>>, NoMemory>
+pub(crate) fn order_of<'a>(alloc: Global, bodies: &'a [Body]) -> Result<Vec<Entry<'a>>, NoMemory>
     ensures in_order { IfOk result (λ order. InOrder order.items) }
     ensures left { IfOk result (λ order. IsLeft (left_of order.items) (map body_of bodies.now) []) }
 {

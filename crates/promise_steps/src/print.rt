@@ -1,13 +1,14 @@
-//! The text of a log.
+//! The text of a log. Where a call answers `Err`, a part of its text may stand there.
 ghost use Rattle.std.specs.Prelude.{◌≡◌, ◌++◌, ◌∷◌, [], OnOk, codes, decimal};
-ghost use Rattle.kj_model.specs.Text.{spaced, all_spaced, kind_text, outcome_text, refused_text};
+ghost use Rattle.kj_model.specs.Text.{spaced, all_spaced, kind_text, outcome_text, refused_text, line_text};
+ghost use Rattle.kj_model.specs.Log.{RefusedAt, WasIdle};
 ghost use Rattle.promise_commands.specs.Refusals.{refused_of};
 
 use itoa::Buffer;
 use kj_base::{Bytes, Kind, NoMemory, NodeId, Outcome, StepId};
 use promise_commands::Refused;
 
-// A number after a space. Here as below an `Err` may leave a part of the text.
+// A number after a space.
 fn print_number(text: &mut Bytes, n: u64) -> Result<(), NoMemory>
     ensures { OnOk result (text.new ≡ text.old ++ spaced n) }
 {
@@ -55,8 +56,8 @@ fn print_outcome(text: &mut Bytes, outcome: &Outcome) -> Result<(), NoMemory>
     }
 }
 
-/// The line of a run, with its end.
-pub fn print_run(
+// The line of a run, with its end.
+pub(crate) fn print_run(
     text: &mut Bytes,
     node: NodeId,
     step: StepId,
@@ -74,8 +75,8 @@ pub fn print_run(
     text.push(b'\n')
 }
 
-/// The line of a free, with its end.
-pub fn print_free(text: &mut Bytes, node: NodeId) -> Result<(), NoMemory>
+// The line of a free, with its end.
+pub(crate) fn print_free(text: &mut Bytes, node: NodeId) -> Result<(), NoMemory>
     ensures { OnOk result (text.new ≡ text.old ++ (codes "free" ++ spaced node.0) ++ 10 ∷ []) }
 {
     text.extend(b"free")?;
@@ -107,8 +108,7 @@ fn print_cause(text: &mut Bytes, refused: Refused) -> Result<(), NoMemory>
 
 /// The line of a refusal, with its end.
 pub fn print_refused(text: &mut Bytes, number: u32, refused: Refused) -> Result<(), NoMemory>
-    ensures { OnOk result (text.new ≡ text.old
-        ++ (codes "refused" ++ spaced number ++ refused_text (refused_of refused)) ++ 10 ∷ []) }
+    ensures { OnOk result (text.new ≡ text.old ++ line_text (RefusedAt number (refused_of refused)) ++ 10 ∷ []) }
 {
     text.extend(b"refused")?;
     print_number(text, u64::from(number))?;
@@ -118,7 +118,7 @@ pub fn print_refused(text: &mut Bytes, number: u32, refused: Refused) -> Result<
 
 /// The line of a turn that found the queue empty, with its end.
 pub fn print_idle(text: &mut Bytes) -> Result<(), NoMemory>
-    ensures { OnOk result (text.new ≡ text.old ++ codes "idle" ++ 10 ∷ []) }
+    ensures { OnOk result (text.new ≡ text.old ++ line_text WasIdle ++ 10 ∷ []) }
 {
     text.extend(b"idle\n")
 }

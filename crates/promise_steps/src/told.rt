@@ -25,7 +25,10 @@ pub(crate) fn print_told(text: &mut Bytes, told: &Told) -> Result<(), NoMemory>
 {
     match told {
         Told::Ran {
-            node, step, input, ..
+            node,
+            step,
+            input,
+            ..
         } => print_run(text, *node, *step, input),
         Told::Freed(node) => print_free(text, *node),
     }

@@ -1,6 +1,5 @@
 -- What was told is printed.
-use Rattle.std.proofs.Common.{◌≡◌, List, [], map, true, ap}
-use Rattle.kj_base.specs.Record.{Item}
+use Rattle.std.proofs.Common.{◌≡◌, map, true, ap}
 use Rattle.promise_steps.specs.Items.{item_of}
 use Rattle.promise_steps.specs.Order.{left_of}
 use Rattle.promise_steps.specs.Kept.{begun_of, items_of}

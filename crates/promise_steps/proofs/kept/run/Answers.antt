@@ -1,5 +1,5 @@
 -- A run is kept with the body that it gave.
-use Rattle.std.proofs.Common.{◌≡◌, List, []  , ◌∷◌, subst, sym}
+use Rattle.std.proofs.Common.{List, [], ◌∷◌, subst, sym}
 use Rattle.kj_base.specs.Commands.{Action}
 use Rattle.kj_base.specs.Record.{Run, Tells}
 use Rattle.kj_base.specs.declared.outcomes.Outcome.{Outcome}

@@ -1,5 +1,5 @@
 -- The bodies, and their stable sort.
-use Rattle.std.proofs.Common.{◌≡◌, List, rules, ap, ◌∙◌, map}
+use Rattle.std.proofs.Common.{◌≡◌, List, rules, ◌∙◌}
 use Rattle.std.proofs.lemmas.List.{take_all}
 use Rattle.std.proofs.lemmas.List.Sorted.{IsNonDecreasingBy-from_sort_by_key, answers_always}
 use Rattle.promise_steps.specs.declared.order.Entry.{Entry}

@@ -1,11 +1,9 @@
 -- The next body of a step, which goes unless it is the last.
-use Rattle.std.proofs.Common.{◌≡◌, ◌<◌, ◌+◌, ◌∷◌, [], List, length, drop, Some, None, sym, ap, ◌∙◌, arith, drop-cons}
+use Rattle.std.proofs.Common.{◌<◌, ◌∷◌, List, length, sym, ap, ◌∙◌}
 use Rattle.kj_base.specs.Commands.{Action}
 use Rattle.promise_commands.specs.Commands.{action_of}
 use Rattle.promise_steps.specs.declared.order.Entry.{Entry}
-use Rattle.promise_steps.specs.Order.{next_of}
 use Rattle.promise_steps.proofs.Orders.{nothing_next, one_next, last_next, gives_passing, gives_first, left_passing, left_last, done_in_order, done_left, next_within, entry_here, none_there, some_there}
-use Rattle.promise_steps.proofs.Lefts.{mine}
 use Rattle.promise_steps.proofs.order.take_next.Goals as goal
 
 pub returns-in-None-clause-gives : goal.returns-in-None-clause-gives

@@ -1,5 +1,5 @@
 -- The view is what is kept.
-use Rattle.std.proofs.Common.{OnOk, subst, sym}
+use Rattle.std.proofs.Common.{OnOk, subst}
 use Rattle.promise_steps.specs.declared.kept.Kept.{Kept}
 use Rattle.promise_steps.specs.Following.{Prints}
 use Rattle.promise_steps.specs.Kept.{told_by}
