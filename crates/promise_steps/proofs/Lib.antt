@@ -1,0 +1,5 @@
+pub mod Agreeing
+pub mod Keeping
+pub mod Lefts
+pub mod Orders
+pub mod Sorting

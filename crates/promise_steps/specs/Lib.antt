@@ -1,0 +1,4 @@
+pub mod Order
+pub mod Items
+pub mod Following
+pub mod Kept

@@ -1,0 +1,64 @@
+//! The steps of a script.
+ghost use Rattle.std.specs.Prelude.{◌≡◌, [], map, IfOk, OnOk};
+ghost use Rattle.promise_commands.specs.Scripts.{body_of};
+ghost use Rattle.promise_steps.specs.Following.{Follows, Prints};
+ghost use Rattle.promise_steps.specs.Kept.{told_by};
+
+use crate::kept::{Kept, begin, drain_into, freed, run};
+use kj_base::{Bytes, NoMemory, NodeId, Outcome, StepId};
+use promise_commands::{Action, Bodies, Steps};
+use std::alloc::Global;
+use std::marker::Model;
+
+/// The steps of a script. Each run gives a body of its step, the first run the first; runs after the last body give the
+/// last. A step without a body gives no commands and its input. What was told is kept until it is printed.
+#[derive(Drop)]
+pub struct ScriptSteps<'a> {
+    kept: Kept<'a>,
+}
+
+impl<'a> Model for ScriptSteps<'a> {
+    ghost use Rattle.promise_steps.specs.declared.kept.Kept.{Kept};
+
+    ghost Value = { Kept };
+
+    ghost use Rattle.promise_steps.specs.Kept.{IsKept};
+
+    ghost view = { λ s. s.kept };
+
+    ghost invariant = { λ s. IsKept s.kept };
+}
+
+impl<'a> ScriptSteps<'a> {
+    /// Steps with these bodies, none of which ran.
+    pub fn new(alloc: Global, bodies: &'a Bodies) -> Result<ScriptSteps<'a>, NoMemory>
+        ensures { IfOk result (λ steps. Follows (map body_of bodies.now) [] (told_by steps)) }
+    {
+        let kept = begin(alloc, bodies)?;
+        Ok(ScriptSteps { kept })
+    }
+
+    /// Appends the lines of what was told, which is then forgotten. An `Err` may leave a part of the lines.
+    pub fn drain_into(&mut self, text: &mut Bytes) -> Result<(), NoMemory>
+        ensures { OnOk result (Prints (told_by self.old) (told_by self.new) text.old text.new) }
+    {
+        drain_into(&mut self.kept, text)
+    }
+}
+
+impl<'a> Steps for ScriptSteps<'a> {
+    ghost use Rattle.promise_steps.specs.Kept.{told_by};
+
+    ghost told = { λ s. told_by s };
+
+    // No run finds a lack of memory: where there is no room to tell of it, the steps fall silent.
+    ghost lacks = { λ _. 0 };
+
+    fn run(&mut self, node: NodeId, step: StepId, input: &Outcome) -> Result<Action, NoMemory> {
+        Ok(run(&mut self.kept, node, step, input))
+    }
+
+    fn freed(&mut self, node: NodeId) {
+        freed(&mut self.kept, node);
+    }
+}
