@@ -1,6 +1,7 @@
 -- What commands build.
-use Rattle.std.specs.Prelude.{ℕ, None, Some}
+use Rattle.std.specs.Prelude.{ℕ, Option, None, Some}
 use Rattle.kj_base.specs.Commands.{step_of}
+use Rattle.kj_base.specs.declared.numbers.StepId.{StepId}
 use Rattle.kj_model.specs.World.{World, CellOf, held_at}
 use Rattle.kj_model.specs.Changes.{named}
 use Rattle.kj_model.specs.Effects.{leaf_built}
@@ -16,6 +17,10 @@ over_shown EagerCase tree = Eager (Tree tree)
 over_shown (WrapCase canceler) tree = Wrap canceler.0 (Tree tree)
 over_shown TaskCase tree = Task (Some tree)
 over_shown SideCase tree = Side (Waits tree)
+
+-- the form over a tree of a Then with these steps
+abbrev pub then_shown : Option StepId → Option StepId → ℕ → Form
+then_shown value error tree = Then (step_of value) (step_of error) (Some tree)
 
 -- nodes and names stand for one world
 abbrev pub Both : (World → Type 0) → (World → Type 0) → World → Type 0
