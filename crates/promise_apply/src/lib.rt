@@ -1,6 +1,7 @@
 //! What commands do to the nodes and the names of a loop.
 #![tactic(auto)]
 
+mod applying;
 mod building;
 mod cells;
 mod chaining;

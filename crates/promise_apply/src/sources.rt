@@ -1,10 +1,12 @@
 //! The sources of a command, with their trees.
-ghost use Rattle.std.specs.Prelude.{◌≡◌, ◌≤◌, [], ℕ, None, Some, IfSome, is_some, length};
+ghost use Rattle.std.specs.Prelude.{◌≡◌, ◌≤◌, ◌==◌, [], ℕ, None, Some, IfSome, is_some, length};
+ghost use Rattle.std.specs.List.{list_any};
 ghost use Rattle.kj_model.specs.World.{World, CellOf, HubOf, held_at};
 ghost use Rattle.kj_model.specs.Nodes.{is_in};
 ghost use Rattle.promise_commands.specs.Commands.{name_numbers};
 ghost use Rattle.promise_nodes.specs.Shown.{link_number};
 ghost use Rattle.promise_apply.specs.Joining.{AreSources, are_sources, source_names};
+ghost use Rattle.promise_apply.specs.declared.sources.Source.{Source as Taken};
 
 use arrayvec::ArrayVec;
 use kj_base::{Link, Name, NodeId, Slot};
@@ -61,10 +63,16 @@ pub(crate) fn hub_named<M: Names>(names: &M, name: Name) -> Option<Link>
     }
 }
 
+fn some_named(sources: &[Source], name: Name) -> bool
+    ensures { result ≡ list_any (λ (s : Taken). s.name.0 == name.0) sources.now }
+{
+    sources.iter().any(|source| source.name.0 == name.0)
+}
+
 fn is_among(sources: &[Source], name: Name) -> bool
     ensures { result ≡ is_in name.0 (source_names sources.now) }
 {
-    sources.iter().any(|source| source.name.0 == name.0)
+    some_named(sources, name)
 }
 
 /// The promises with these names, and their trees; none where a name promises nothing or is named twice.
