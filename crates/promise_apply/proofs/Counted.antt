@@ -12,7 +12,7 @@ use Rattle.promise_names.specs.Once.{AreOnce}
 use Rattle.promise_apply.specs.Applying.{ArePassed, names_left, awaited_over, one_if, count_new, count_sources, stays}
 
 -- how often a name stands there
-times : ℕ → List Named → ℕ
+abbrev times : ℕ → List Named → ℕ
 times n [] = 0
 times n (x ∷ xs) = one_if (x.name == n) + times n xs
 
@@ -33,7 +33,7 @@ new_long x [] = refl
 new_long x (y ∷ ys) = long_case (nat_lt x.name y.name) x y ys refl (new_long x ys)
 
 -- 0 where it holds
-none_if : Bool → ℕ → ℕ
+abbrev none_if : Bool → ℕ → ℕ
 none_if true t = 0
 none_if false t = t
 
@@ -93,7 +93,7 @@ used_more test n [] v = or_false (test v.role && (v.name == n))
 used_more test n (u ∷ us) v = more_case (test u.role && (u.name == n)) test n u v us refl (used_more test n us v)
 
 -- how often a name stands there, after these names came and went
-stood : Bool → Bool → ℕ → ℕ
+abbrev stood : Bool → Bool → ℕ → ℕ
 stood true source t = 1
 stood false true t = 0
 stood false false t = t

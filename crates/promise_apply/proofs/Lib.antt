@@ -5,3 +5,5 @@ pub mod Live
 pub mod Sided
 pub mod Refused
 pub mod Counted
+pub mod Passed
+pub mod Joined

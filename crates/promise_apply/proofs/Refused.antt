@@ -2,6 +2,9 @@
 use Rattle.std.proofs.Common.{◌≡◌, ℕ, List, [], ◌∷◌, Option, None, Some, Bool, true, false, refl, sym, ap, ◌∙◌, subst, length, drop}
 use Rattle.std.specs.Prelude.{nat_lt, not, ◌&&◌, ◌||◌, ◌^◌}
 use Rattle.std.specs.List.{list_any}
+use Rattle.std.specs.Prelude.{Result, Ok, Err, IsErrAnd}
+use Rattle.promise_commands.specs.Refusals.{refused_of, refusal_of}
+use Rattle.promise_commands.specs.declared.refused.Refused.{Refused as RefusedCase}
 use Rattle.std.proofs.Math.Seq.{drop-length}
 use Rattle.kj_base.specs.Commands.{Command, Action}
 use Rattle.kj_base.specs.Places.{Row}
@@ -140,6 +143,9 @@ refused_applies Old rule r c uses rowed built change is refused same answer insi
     refusal_is rule answer inside c s uses built change is ∙ sym (rows_alike rule uses rowed (built s.world) s.world (same s.world old)) ∙ refused s.world old in
     subst (IsApplied Old s.past (Some r)) (sym (ap (λ (o : Option Refused). applied o c s) why)) (record { reply = refl; stands = old; past_is = refl })
 
+abbrev with_none : State → State × Option Refused
+with_none s = (s, None)
+
 -- one that isn't has its effect
 pub done_applies : (Old New : World → Type 0) (rule : Rule) (c : Command) (uses : List Use) (rowed : List Row) (built : World → List Row) (change : World → World) → IsCommand c uses built change
     → ((w : World) → Old w → refused_for rule uses rowed w ≡ None) → ((w : World) → Old w → ArePassed uses w → rowed ≡ built w) → ((w : World) → Old w → ArePassed uses w → New (change w)) → Applies Old New rule None c
@@ -148,5 +154,16 @@ done_applies Old New rule c uses rowed built change is none same new answer insi
     let why : refusal (setting_of rule answer) inside c s ≡ None =
     refusal_is rule answer inside c s uses built change is ∙ sym (rows_alike rule uses rowed (built w) w (same w old)) ∙ none w old in
     let what : apply (setting_of rule answer) inside c s ≡ (silent change s, None) =
-    ap (λ (o : Option Refused). applied o c s) why ∙ ap (λ (t : State). (t, None {A = Refused})) (is.changes (usual w) s) in
+    ap (λ (o : Option Refused). applied o c s) why ∙ ap (λ (t : State). with_none t) (is.changes (usual w) s) in
     subst (IsApplied New s.past None) (sym what) (record { reply = refl; stands = new w old (passed rule uses rowed w (none w old)); past_is = refl })
+
+-- a refusal that is passed on
+pub passed_on : (r : Result (Unit {0}) RefusedCase) (e : RefusedCase) → IsErrAnd r (λ x. x ≡ e) → refusal_of r ≡ Some (refused_of e)
+passed_on (Ok x) e h = absurd h
+passed_on (Err x) e h = ap (λ (y : RefusedCase). Some (refused_of y)) h
+
+-- a command that is refused so
+pub refused_so : (Old : World → Type 0) (rule : Rule) (r : Result (Unit {0}) RefusedCase) (e : RefusedCase) (c : Command) (uses : List Use) (rowed : List Row) (built : World → List Row) (change : World → World) → IsErrAnd r (λ x. x ≡ e) → IsCommand c uses built change
+    → ((w : World) → Old w → Some (refused_of e) ≡ refused_for rule uses rowed w) → ((w : World) → Old w → ArePassed uses w → rowed ≡ built w) → Applies Old Old rule (refusal_of r) c
+refused_so Old rule r e c uses rowed built change so is refused same =
+    subst (λ (o : Option Refused). Applies Old Old rule o c) (sym (passed_on r e so)) (refused_applies Old rule (refused_of e) c uses rowed built change is (λ w old. sym (refused w old)) same)

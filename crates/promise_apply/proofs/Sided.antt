@@ -15,7 +15,9 @@ use Rattle.promise_names.specs.Held.{AreFree, HasRoot}
 use Rattle.promise_nodes.specs.Kept.{SameNames, AreRowsBuilt}
 use Rattle.promise_nodes.specs.Shown.{run_from, next_number}
 use Rattle.promise_apply.specs.Building.{over_shown}
-use Rattle.promise_apply.specs.Joining.{AreHeld, AreSources, source_names, source_trees, tree_rows, rows_before}
+use Rattle.kj_base.specs.declared.numbers.Name.{Name}
+use Rattle.promise_commands.specs.Commands.{name_numbers}
+use Rattle.promise_apply.specs.Joining.{AreHeld, AreSources, are_sources, source_names, source_trees, tree_rows, rows_before}
 use Rattle.promise_apply.specs.declared.sources.Source.{Source}
 use Rattle.promise_apply.specs.declared.building.Over.TheVariants.{Side as SideCase}
 use Rattle.promise_apply.proofs.Same.{listened_names}
@@ -211,3 +213,15 @@ run_misses k (suc count) n low h =
 pub names_long : (sources : List Source) → length (source_names sources) ≡ length sources
 names_long [] = refl
 names_long (s ∷ ss) = let h = names_long ss in omega (arith, h)
+
+pub names_more : (sources : List Source) (s : Source) → source_names (sources ++ s ∷ []) ≡ source_names sources ++ s.name.0 ∷ []
+names_more [] s = refl
+names_more (x ∷ xs) s = ap (λ (ns : List ℕ). x.name.0 ∷ ns) (names_more xs s)
+
+pub numbers_more : (names : List Name) (n : Name) → name_numbers (names ++ n ∷ []) ≡ name_numbers names ++ n.0 ∷ []
+numbers_more [] n = refl
+numbers_more (x ∷ xs) n = ap (λ (ns : List ℕ). x.0 ∷ ns) (numbers_more xs n)
+
+-- one name that is a source
+pub sources_step : (roots : ℕ → Option ℕ) (before : List ℕ) (n root : ℕ) (more : List ℕ) → is_in n before ≡ false → roots n ≡ Some root → are_sources roots before (n ∷ more) ≡ are_sources roots (before ++ n ∷ []) more
+sources_step roots before n root more fresh has = rw (fresh, has) refl

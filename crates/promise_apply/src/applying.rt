@@ -11,43 +11,25 @@ ghost use Rattle.kj_model.specs.Effects.{leaf_built, over_named, over_listening,
 ghost use Rattle.kj_model.specs.Apply.{anew, before_source, apply};
 ghost use Rattle.promise_commands.specs.Commands.{command_of, name_numbers};
 ghost use Rattle.promise_commands.specs.Refusals.{refusal_of};
-ghost use Rattle.promise_nodes.specs.Shown.{shown, link_number};
-ghost use Rattle.promise_nodes.specs.Kept.{OnlyRises, row_seen, rows_seen};
+ghost use Rattle.promise_nodes.specs.Shown.{shown};
+ghost use Rattle.promise_nodes.specs.Kept.{OnlyRises, rows_seen};
 ghost use Rattle.promise_names.specs.Held.{AreFree};
 ghost use Rattle.promise_apply.specs.Building.{Both, over_shown, pair_built};
-ghost use Rattle.promise_apply.specs.Uses.{role_shown, use_shown, uses_shown};
+ghost use Rattle.promise_apply.specs.Uses.{uses_shown};
 ghost use Rattle.promise_apply.specs.Joining.{FitsJoined, joined_built, rows_before};
 ghost use Rattle.promise_apply.specs.Applying.{Applies, IsApplied, IsCommand, setting_of};
 
 use crate::building::{Over, build_leaf, build_over, detach};
 use crate::cells::{build_pair, drop_cell, settle_cell};
 use crate::chaining::{build_chain, build_fork, build_listening};
-use crate::joining::{Joined, build_joined};
 use crate::naming::{Role, Use};
 use crate::refusing::check;
 use crate::sharing::build_branch;
-use crate::sources::{cell_named, hub_named, root_named, sources_named};
-use arrayvec::ArrayVec;
-use kj_base::{Exception, Form, Link, Name, Outcome, StepId, Words};
-use promise_commands::{Command, MAX_PARTS, Refused};
+use crate::sources::{cell_named, hub_named, root_named};
+use kj_base::{Form, Name, Outcome, StepId};
+use promise_commands::Refused;
 use promise_names::Names;
 use promise_nodes::{NodeRow, Nodes};
-
-/// The most names that a command has: a new one, and the sources of a join.
-const MAX_USES: usize = 9;
-
-fn used_as(role: Role, name: Name) -> Use
-    ensures { use_shown result ≡ use_as (role_shown role) name.0 }
-{
-    Use { role, name }
-}
-
-// So many nodes before a tree, or anew.
-fn row_of(before: Option<Link>, count: u8) -> NodeRow
-    ensures { row_seen result ≡ row (link_number before) count }
-{
-    NodeRow { before, count }
-}
 
 // A leaf that a new name promises.
 fn apply_leaf<N: Nodes, M: Names>(
@@ -67,7 +49,7 @@ fn apply_leaf<N: Nodes, M: Names>(
     ensures plain { OnlyRises (N.is_plain nodes.old) (N.is_plain nodes.new) }
     ensures over { M.over names.new ≡ M.over names.old }
 {
-    check(nodes, names, &[used_as(Role::New, name)], &[row_of(None, 1)])?;
+    check(nodes, names, &[Use { role: Role::New, name }], &[NodeRow { before: None, count: 1 }])?;
     build_leaf(nodes, names, name, form);
     Ok(())
 }
@@ -89,8 +71,8 @@ fn apply_pair<N: Nodes, M: Names>(
     ensures plain { OnlyRises (N.is_plain nodes.old) (N.is_plain nodes.new) }
     ensures over { M.over names.new ≡ M.over names.old }
 {
-    let uses = [used_as(Role::New, name), used_as(Role::New, cell)];
-    check(nodes, names, &uses, &[row_of(None, 1)])?;
+    let uses = [Use { role: Role::New, name }, Use { role: Role::New, name: cell }];
+    check(nodes, names, &uses, &[NodeRow { before: None, count: 1 }])?;
     build_pair(nodes, names, name, cell);
     Ok(())
 }
@@ -113,13 +95,16 @@ fn apply_over<N: Nodes, M: Names>(
     ensures plain { OnlyRises (N.is_plain nodes.old) (N.is_plain nodes.new) }
     ensures over { M.over names.new ≡ M.over names.old }
 {
-    let uses = [used_as(Role::New, name), used_as(Role::Source, source)];
+    let uses = [Use { role: Role::New, name }, Use { role: Role::Source, name: source }];
     let root = root_named(names, source);
-    check(nodes, names, &uses, &[row_of(root, 1)])?;
-    if let Some(root) = root {
-        build_over(nodes, names, name, source, root, over);
+    check(nodes, names, &uses, &[NodeRow { before: root, count: 1 }])?;
+    match root {
+        Some(root) => {
+            build_over(nodes, names, name, source, root, over);
+            Ok(())
+        }
+        None => Ok(()),
     }
-    Ok(())
 }
 
 // The same, and the node listens.
@@ -140,13 +125,16 @@ fn apply_listening<N: Nodes, M: Names>(
     ensures plain { OnlyRises (N.is_plain nodes.old) (N.is_plain nodes.new) }
     ensures over { M.over names.new ≡ M.over names.old }
 {
-    let uses = [used_as(Role::New, name), used_as(Role::Source, source)];
+    let uses = [Use { role: Role::New, name }, Use { role: Role::Source, name: source }];
     let root = root_named(names, source);
-    check(nodes, names, &uses, &[row_of(root, 1)])?;
-    if let Some(root) = root {
-        build_listening(nodes, names, name, source, root, over);
+    check(nodes, names, &uses, &[NodeRow { before: root, count: 1 }])?;
+    match root {
+        Some(root) => {
+            build_listening(nodes, names, name, source, root, over);
+            Ok(())
+        }
+        None => Ok(()),
     }
-    Ok(())
 }
 
 // A Then over a source, and a Chain over it.
@@ -168,13 +156,16 @@ fn apply_chain<N: Nodes, M: Names>(
     ensures plain { OnlyRises (N.is_plain nodes.old) (N.is_plain nodes.new) }
     ensures over { M.over names.new ≡ M.over names.old }
 {
-    let uses = [used_as(Role::New, name), used_as(Role::Source, source)];
+    let uses = [Use { role: Role::New, name }, Use { role: Role::Source, name: source }];
     let root = root_named(names, source);
-    check(nodes, names, &uses, &[row_of(root, 2)])?;
-    if let Some(root) = root {
-        build_chain(nodes, names, name, source, root, value, error);
+    check(nodes, names, &uses, &[NodeRow { before: root, count: 2 }])?;
+    match root {
+        Some(root) => {
+            build_chain(nodes, names, name, source, root, value, error);
+            Ok(())
+        }
+        None => Ok(()),
     }
-    Ok(())
 }
 
 // A hub over a source.
@@ -194,12 +185,15 @@ fn apply_fork<N: Nodes, M: Names>(
     ensures plain { OnlyRises (N.is_plain nodes.old) (N.is_plain nodes.new) }
     ensures over { M.over names.new ≡ M.over names.old }
 {
-    let uses = [used_as(Role::New, name), used_as(Role::Source, source)];
-    check(nodes, names, &uses, &[row_of(None, 1)])?;
-    if let Some(root) = root_named(names, source) {
-        build_fork(nodes, names, name, source, root);
+    let uses = [Use { role: Role::New, name }, Use { role: Role::Source, name: source }];
+    check(nodes, names, &uses, &[NodeRow { before: None, count: 1 }])?;
+    match root_named(names, source) {
+        Some(root) => {
+            build_fork(nodes, names, name, source, root);
+            Ok(())
+        }
+        None => Ok(()),
     }
-    Ok(())
 }
 
 // A branch of a hub.
@@ -219,12 +213,15 @@ fn apply_branch<N: Nodes, M: Names>(
     ensures plain { OnlyRises (N.is_plain nodes.old) (N.is_plain nodes.new) }
     ensures over { M.over names.new ≡ M.over names.old }
 {
-    let uses = [used_as(Role::New, name), used_as(Role::Hub, hub)];
-    check(nodes, names, &uses, &[row_of(None, 1)])?;
-    if let Some(node) = hub_named(names, hub) {
-        build_branch(nodes, names, name, hub, node);
+    let uses = [Use { role: Role::New, name }, Use { role: Role::Hub, name: hub }];
+    check(nodes, names, &uses, &[NodeRow { before: None, count: 1 }])?;
+    match hub_named(names, hub) {
+        Some(node) => {
+            build_branch(nodes, names, name, hub, node);
+            Ok(())
+        }
+        None => Ok(()),
     }
-    Ok(())
 }
 
 // The cell of a fulfiller gets its outcome.
@@ -244,11 +241,14 @@ fn apply_outcome<N: Nodes, M: Names>(
     ensures plain { OnlyRises (N.is_plain nodes.old) (N.is_plain nodes.new) }
     ensures over { M.over names.new ≡ M.over names.old }
 {
-    check(nodes, names, &[used_as(Role::Cell, name)], &[])?;
-    if let Some(cell) = cell_named(names, name) {
-        settle_cell(nodes, names, name, cell, outcome);
+    check(nodes, names, &[Use { role: Role::Cell, name }], &[])?;
+    match cell_named(names, name) {
+        Some(cell) => {
+            settle_cell(nodes, names, name, cell, outcome);
+            Ok(())
+        }
+        None => Ok(()),
     }
-    Ok(())
 }
 
 // A fulfiller goes.
@@ -267,11 +267,14 @@ fn apply_drop_cell<N: Nodes, M: Names>(
     ensures plain { OnlyRises (N.is_plain nodes.old) (N.is_plain nodes.new) }
     ensures over { M.over names.new ≡ M.over names.old }
 {
-    check(nodes, names, &[used_as(Role::Cell, name)], &[])?;
-    if let Some(cell) = cell_named(names, name) {
-        drop_cell(nodes, names, name, cell);
+    check(nodes, names, &[Use { role: Role::Cell, name }], &[])?;
+    match cell_named(names, name) {
+        Some(cell) => {
+            drop_cell(nodes, names, name, cell);
+            Ok(())
+        }
+        None => Ok(()),
     }
-    Ok(())
 }
 
 // A Task over a source, in the loop's own set.
@@ -291,145 +294,12 @@ fn apply_detach<N: Nodes, M: Names>(
     ensures over { M.over names.new ≡ M.over names.old }
 {
     let root = root_named(names, source);
-    check(nodes, names, &[used_as(Role::Source, source)], &[row_of(root, 1)])?;
-    if let Some(root) = root {
-        detach(nodes, names, source, root);
-    }
-    Ok(())
-}
-
-// The names of a join: a new one, and its sources.
-fn joined_uses(name: Name, wanted: &[Name]) -> ArrayVec<Use, MAX_USES>
-    requires few { length wanted.now ≤ MAX_PARTS }
-    ensures uses { uses_shown result.items ≡ new_over name.0 (name_numbers wanted.now) }
-{
-    let mut uses = ArrayVec::new();
-    uses.push(used_as(Role::New, name));
-    for source in wanted {
-        uses.push(used_as(Role::Source, *source));
-    }
-    uses
-}
-
-// The rows of a join: one before each tree, and one anew.
-fn joined_rows<M: Names>(names: &M, wanted: &[Name]) -> ArrayVec<NodeRow, MAX_USES>
-    requires few { length wanted.now ≤ MAX_PARTS }
-    ensures rows { rows_seen result.items ≡ rows_before (M.roots names.now) (name_numbers wanted.now) ++ row None 1 ∷ [] }
-{
-    let mut rows = ArrayVec::new();
-    for source in wanted {
-        rows.push(row_of(root_named(names, *source), 1));
-    }
-    rows.push(row_of(None, 1));
-    rows
-}
-
-// A race or a join over sources.
-fn apply_joined<N: Nodes, M: Names>(
-    nodes: &mut N,
-    names: &mut M,
-    kind: Joined,
-    name: Name,
-    wanted: &[Name],
-) -> Result<(), Refused>
-    requires few_parts { length wanted.now ≤ MAX_PARTS }
-    requires kind { FitsJoined kind (length wanted.now) }
-    requires free { AreFree (M.roots names.old) (N.is_taken nodes.old) (N.next nodes.old) }
-    requires few { M.count names.old ≤ M.limit names.old }
-    ensures applied { (c : CommandSeen) → IsCommand c (new_over name.0 (name_numbers wanted.now)) (λ w. map (λ source. before_source 1 source w) (name_numbers wanted.now) ++ anew 1 ∷ []) (joined_built kind name.0 (name_numbers wanted.now)) → Applies (Both (N.stands nodes.old) (M.stands names.old)) (Both (N.stands nodes.new) (M.stands names.new)) N.rule (refusal_of result) c }
-    ensures free { AreFree (M.roots names.new) (N.is_taken nodes.new) (N.next nodes.new) }
-    ensures few { M.count names.new ≤ M.limit names.new }
-    ensures limit { M.limit names.new ≡ M.limit names.old }
-    ensures slots { N.slots nodes.new ≡ N.slots nodes.old }
-    ensures plain { OnlyRises (N.is_plain nodes.old) (N.is_plain nodes.new) }
-    ensures over { M.over names.new ≡ M.over names.old }
-{
-    let uses = joined_uses(name, wanted);
-    let rows = joined_rows(names, wanted);
-    check(nodes, names, uses.as_slice(), rows.as_slice())?;
-    if let Some(sources) = sources_named(names, wanted) {
-        build_joined(nodes, names, kind, name, sources.as_slice());
-    }
-    Ok(())
-}
-
-fn broken(exception: Exception) -> Form
-    ensures { shown [] result ≡ Ready (BrokenBy exception) }
-{
-    Form::Ready {
-        outcome: Outcome::Broken(exception),
-    }
-}
-
-fn ready(value: &Words) -> Form
-    ensures { shown [] result ≡ Ready (Value value.now) }
-{
-    Form::Ready {
-        outcome: Outcome::Value(value.copy()),
-    }
-}
-
-/// A command has its effect, or is refused; then all is as before.
-pub fn apply<N: Nodes, M: Names>(
-    nodes: &mut N,
-    names: &mut M,
-    command: &Command,
-) -> Result<(), Refused>
-    requires free { AreFree (M.roots names.old) (N.is_taken nodes.old) (N.next nodes.old) }
-    requires few { M.count names.old ≤ M.limit names.old }
-    ensures applied { (answer : List Item → ℕ → Option Action) (inside : Bool) (s : State) → Both (N.stands nodes.old) (M.stands names.old) s.world → IsApplied (Both (N.stands nodes.new) (M.stands names.new)) s.past (refusal_of result) (apply (setting_of N.rule answer) inside (command_of command.now) s) }
-    ensures free { AreFree (M.roots names.new) (N.is_taken nodes.new) (N.next nodes.new) }
-    ensures few { M.count names.new ≤ M.limit names.new }
-    ensures limit { M.limit names.new ≡ M.limit names.old }
-    ensures slots { N.slots nodes.new ≡ N.slots nodes.old }
-    ensures plain { OnlyRises (N.is_plain nodes.old) (N.is_plain nodes.new) }
-    ensures over { M.over names.new ≡ M.over names.old }
-{
-    match command {
-        Command::Now { name, value } => apply_leaf(nodes, names, *name, ready(value)),
-        Command::Broken { name, exception } => apply_leaf(nodes, names, *name, broken(*exception)),
-        Command::Later { name } => apply_leaf(nodes, names, *name, Form::Later),
-        Command::Last { name } => apply_leaf(nodes, names, *name, Form::Last),
-        Command::Pair { name, cell } => apply_pair(nodes, names, *name, *cell),
-        Command::Then {
-            name,
-            source,
-            value,
-            error,
-        } => {
-            let over = Over::Then {
-                value: *value,
-                error: *error,
-            };
-            apply_over(nodes, names, *name, *source, over)
+    check(nodes, names, &[Use { role: Role::Source, name: source }], &[NodeRow { before: root, count: 1 }])?;
+    match root {
+        Some(root) => {
+            detach(nodes, names, source, root);
+            Ok(())
         }
-        Command::Chain {
-            name,
-            source,
-            value,
-            error,
-        } => apply_chain(nodes, names, *name, *source, *value, *error),
-        Command::Eager { name, source } => {
-            apply_listening(nodes, names, *name, *source, Over::Eager)
-        }
-        Command::Fork { hub, source } => apply_fork(nodes, names, *hub, *source),
-        Command::Branch { name, hub } => apply_branch(nodes, names, *name, *hub),
-        Command::Race { name, left, right } => {
-            apply_joined(nodes, names, Joined::Race, *name, &[*left, *right])
-        }
-        Command::All { name, parts } => {
-            apply_joined(nodes, names, Joined::All, *name, parts.as_slice())
-        }
-        Command::Fast { name, parts } => {
-            apply_joined(nodes, names, Joined::Fast, *name, parts.as_slice())
-        }
-        Command::Fulfil { cell, value } => {
-            apply_outcome(nodes, names, *cell, Outcome::Value(value.copy()))
-        }
-        Command::Reject { cell, exception } => {
-            apply_outcome(nodes, names, *cell, Outcome::Broken(*exception))
-        }
-        Command::DropCell { cell } => apply_drop_cell(nodes, names, *cell),
-        Command::Detach { source } => apply_detach(nodes, names, *source),
+        None => Ok(()),
     }
 }
