@@ -11,6 +11,9 @@ use Rattle.kj_model.specs.Apply.{each_named, named_by, with_awaited}
 use Rattle.promise_names.specs.Once.{AreOnce}
 use Rattle.promise_apply.specs.Applying.{ArePassed, names_left, awaited_over, one_if, count_new, count_sources, stays}
 
+zero_plus : (n : ℕ) → 0 + n ≡ n
+zero_plus n = omega arith
+
 -- how often a name stands there
 abbrev times : ℕ → List Named → ℕ
 times n [] = 0
@@ -39,8 +42,8 @@ none_if false t = t
 
 gone_case : (a b : Bool) (n m : ℕ) (y : Named) (ys : List Named) → nat_eq y.name m ≡ a → nat_eq m n ≡ b → times n (without_name m ys) ≡ none_if b (times n ys) → times n (without_name m (y ∷ ys)) ≡ none_if b (times n (y ∷ ys))
 gone_case true true n m y ys h k ih = rw h ih
-gone_case true false n m y ys h k ih = let other : nat_eq y.name n ≡ false = grind (arith, nat_tests) in rw (h, other) ih
-gone_case false true n m y ys h k ih = let other : nat_eq y.name n ≡ false = grind (arith, nat_tests) in rw (h, other) ih
+gone_case true false n m y ys h k ih = let other : nat_eq y.name n ≡ false = grind (arith, nat_tests) in rw (h, other) (ih ∙ sym (zero_plus (times n ys)))
+gone_case false true n m y ys h k ih = let other : nat_eq y.name n ≡ false = grind (arith, nat_tests) in rw (h, other) (zero_plus (times n (without_name m ys)) ∙ ih)
 gone_case false false n m y ys h k ih = rw h (ap (λ (t : ℕ). one_if (y.name == n) + t) ih)
 
 gone_times : (n m : ℕ) (ys : List Named) → times n (without_name m ys) ≡ none_if (m == n) (times n ys)
@@ -64,7 +67,7 @@ none_case true n y ys h ih none = absurd (some_none y.held (rw h at none))
   where
     some_none : (x : Held) → ◌≡◌ {A = Option Held} (Some x) None → ⊥
     some_none x e = cc
-none_case false n y ys h ih none = rw h (ih (rw h at none))
+none_case false n y ys h ih none = rw h (zero_plus (times n ys) ∙ ih (rw h at none))
 
 none_times : (n : ℕ) (ys : List Named) → held_at n ys ≡ None → times n ys ≡ 0
 none_times n [] none = refl
@@ -72,7 +75,7 @@ none_times n (y ∷ ys) none = none_case (nat_eq y.name n) n y ys refl (none_tim
 
 once_case : (b : Bool) (n : ℕ) (y : Named) (ys : List Named) → nat_eq y.name n ≡ b → times n ys ≡ one_if (is_name n ys) → (nat_eq y.name n ≡ true → times n ys ≡ 0) → times n (y ∷ ys) ≡ one_if (is_name n (y ∷ ys))
 once_case true n y ys h ih first = rw h (ap (λ (t : ℕ). 1 + t) (first h))
-once_case false n y ys h ih first = rw h ih
+once_case false n y ys h ih first = rw h (zero_plus (times n ys) ∙ ih)
 
 -- a name that stands once
 once_times : (n : ℕ) (ys : List Named) → AreOnce ys → times n ys ≡ one_if (is_name n ys)
@@ -135,10 +138,10 @@ stood_none false t h = h
 new_stand : (b new source : Bool) (t before : ℕ) → before ≡ stood new source t → one_if b + none_if b before ≡ stood (new || (true && b)) (source || (false && b)) t
 new_stand true true source t before h = refl
 new_stand true false source t before h = refl
-new_stand false true true t before h = h
-new_stand false true false t before h = h
-new_stand false false true t before h = h
-new_stand false false false t before h = h
+new_stand false true true t before h = zero_plus before ∙ h
+new_stand false true false t before h = zero_plus before ∙ h
+new_stand false false true t before h = zero_plus before ∙ h
+new_stand false false false t before h = zero_plus before ∙ h
 
 -- one that goes
 source_stand : (b new source : Bool) (t before : ℕ) → (b ≡ true → new ≡ false) → before ≡ stood new source t → none_if b before ≡ stood (new || (false && b)) (source || (true && b)) t

@@ -6,4 +6,4 @@ pub mod Sided
 pub mod Refused
 pub mod Counted
 pub mod Passed
-pub mod Joined
+pub mod Several

@@ -3,7 +3,7 @@ use Rattle.std.proofs.Common.{◌≡◌, ℕ, List, [], ◌∷◌, ◌++◌, Opt
 use Rattle.std.specs.Prelude.{nat_eq, nat_lt, not, ◌&&◌, ◌||◌, is_some}
 use Rattle.std.proofs.lemmas.Bool.{false≢true}
 use Rattle.kj_model.specs.World.{World, Named, Held, Promise, CellOf, AskCell, HubOf, Group, Canceler, RequestOf, held_at}
-use Rattle.kj_model.specs.Nodes.{Form}
+use Rattle.kj_model.specs.Nodes.{Form, Side, Waits}
 use Rattle.kj_model.specs.Changes.{unnamed, without_name, with_new, named}
 use Rattle.kj_model.specs.Effects.{node_of, node_named, over_built, sides_built, leaf_built}
 use Rattle.kj_model.specs.Uses.{Role, IsNew, IsSource, IsCell, IsHub, Use, use_as, used_as, new_over, is_name, is_promise, is_cell, is_hub, has_role, first_failing, is_unknown, is_wrong, is_taken, used_before, is_new, is_source}
@@ -129,7 +129,7 @@ over_listless name source form w none = listless_none (held_at name (over_built 
 
 sides_absent : (name : ℕ) (sources : List ℕ) (w : World) → held_at name w.names ≡ None → held_at name (sides_built sources w).names ≡ None
 sides_absent name [] w none = none
-sides_absent name (s ∷ ss) w none = sides_absent name ss (over_built _ s w) (over_absent name s _ w none)
+sides_absent name (s ∷ ss) w none = sides_absent name ss (over_built (λ t. Side (Waits t)) s w) (over_absent name s (λ t. Side (Waits t)) w none)
 
 -- or Sides
 pub sides_listless : (name : ℕ) (sources : List ℕ) (w : World) → held_at name w.names ≡ None → IsListless (held_at name (sides_built sources w).names)

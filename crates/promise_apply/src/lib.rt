@@ -11,6 +11,7 @@ mod refusing;
 mod sharing;
 mod sources;
 
+pub use applying::apply;
 pub use building::{Over, build_leaf, build_over, detach};
 pub use cells::{build_pair, drop_cell, settle_cell};
 pub use chaining::{build_chain, build_fork, build_listening};

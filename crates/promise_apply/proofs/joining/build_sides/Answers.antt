@@ -1,4 +1,4 @@
-use Rattle.std.proofs.Common.{◌≡◌, ℕ, ◌+◌, ◌≤◌, ◌<◌, ◌^◌, List, [], ◌∷◌, ◌++◌, None, Some, Bool, true, false, IsTrue, length, get_or, drop, refl, sym, ap, subst, ◌∙◌, arith}
+use Rattle.std.proofs.Common.{◌≡◌, ℕ, suc, ◌+◌, ◌≤◌, ◌<◌, ◌^◌, List, [], ◌∷◌, ◌++◌, None, Some, Bool, true, false, IsTrue, length, get_or, drop, refl, sym, ap, subst, ◌∙◌, arith}
 use Rattle.std.specs.Prelude.{nat_eq}
 use Rattle.std.proofs.lemmas.Bool.{false≢true}
 use Rattle.std.proofs.lemmas.Bool.Decides.{nat_tests}
@@ -15,9 +15,12 @@ use Rattle.promise_apply.proofs.Sided.{IsSided, sided_more, sources_left, free_g
 use Rattle.promise_apply.proofs.joining.build_sides.Goals.{then-i-eq0, else-i-eq0}
 use Rattle.promise_apply.proofs.joining.build_sides.Goals as goal
 
+up : (i : ℕ) → suc i ≡ i + 1
+up i = omega arith
+
 -- the source at a place stands before the others
 at_place : (sources : List Source) (i : ℕ) → i < length sources → drop i sources ≡ get_or sources i (record { name = record { 0 = 0 }; root = record { slot = record { 0 = 0 }; number = record { 0 = 0 } } }) ∷ drop (i + 1) sources
-at_place sources i low = drop-cons sources i (record { name = record { 0 = 0 }; root = record { slot = record { 0 = 0 }; number = record { 0 = 0 } } }) low
+at_place sources i low = drop-cons sources i (record { name = record { 0 = 0 }; root = record { slot = record { 0 = 0 }; number = record { 0 = 0 } } }) low ∙ ap (λ (k : ℕ). get_or sources i (record { name = record { 0 = 0 }; root = record { slot = record { 0 = 0 }; number = record { 0 = 0 } } }) ∷ drop k sources) (up i)
 
 fallen : (b c : Bool) → c ≡ false → (b ≡ true → c ≡ true) → b ≡ false
 fallen true c h f = absurd (false≢true (sym h ∙ f refl))

@@ -1,4 +1,4 @@
-use Rattle.std.proofs.Common.{◌≡◌, ℕ, ◌+◌, ◌<◌, List, [], ◌∷◌, ◌++◌, None, Some, Bool, true, false, length, get_or, take, drop, refl, sym, ap, subst, ◌∙◌, arith}
+use Rattle.std.proofs.Common.{◌≡◌, ℕ, suc, ◌+◌, ◌<◌, List, [], ◌∷◌, ◌++◌, None, Some, Bool, true, false, length, get_or, take, drop, refl, sym, ap, subst, ◌∙◌, arith}
 use Rattle.std.specs.Prelude.{not, ◌&&◌, is_some}
 use Rattle.std.proofs.Math.Seq.{drop-cons}
 use Rattle.std.proofs.lemmas.List.{take_more}
@@ -10,6 +10,9 @@ use Rattle.promise_apply.specs.Joining.{AreSources, are_sources, source_names}
 use Rattle.promise_apply.specs.declared.sources.Source.{Source}
 use Rattle.promise_apply.proofs.Sided.{sources_more, names_more, numbers_more, sources_step}
 use Rattle.promise_apply.proofs.sources.sources_named.Goals as goal
+
+up : (i : ℕ) → suc i ≡ i + 1
+up i = omega arith
 
 pub loop-name-preserved : goal.loop-name-preserved
 loop-name-preserved g c =
@@ -35,6 +38,6 @@ loop-name-preserved g c =
       rest = ap (λ (ss : List Source). are_sources roots (source_names ss) (name_numbers (drop (i + 1) wanted))) items
           ∙ ap (λ (ns : List ℕ). are_sources roots ns (name_numbers (drop (i + 1) wanted))) names
           ∙ sym (sources_step roots (source_names found) n.0 c.in-Some.root.number.0 (name_numbers (drop (i + 1) wanted)) fresh root)
-          ∙ sym (ap (λ (ns : List Name). are_sources roots (source_names found) (name_numbers ns)) (drop-cons wanted i blank low))
+          ∙ sym (ap (λ (ns : List Name). are_sources roots (source_names found) (name_numbers ns)) (drop-cons wanted i blank low ∙ ap (λ (k : ℕ). n ∷ drop k wanted) (up i)))
           ∙ now.rest;
     }

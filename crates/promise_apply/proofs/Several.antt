@@ -77,9 +77,12 @@ all_found name roots (n ∷ ns) bs w law h k =
     (subst (λ (us : List Use). first_failing (is_unknown w) (use_as IsNew name ∷ us) (used_as IsSource ns) ≡ None) (uses_more bs n) p.1)
     (subst (λ (us : List Use). first_failing (is_wrong w) (use_as IsNew name ∷ us) (used_as IsSource ns) ≡ None) (uses_more bs n) q.1))
 
+zero_plus : (n : ℕ) → 0 + n ≡ n
+zero_plus n = omega arith
+
 news_none : (ns : List ℕ) → count_new (used_as IsSource ns) ≡ 0
 news_none [] = refl
-news_none (n ∷ ns) = news_none ns
+news_none (n ∷ ns) = zero_plus (count_new (used_as IsSource ns)) ∙ news_none ns
 
 -- one name comes
 pub one_new : (name : ℕ) (ns : List ℕ) → count_new (new_over name ns) ≡ 1
@@ -91,7 +94,7 @@ sources_all (n ∷ ns) = let h = sources_all ns in omega (arith, h)
 
 -- and the sources go
 pub all_go : (name : ℕ) (ns : List ℕ) → count_sources (new_over name ns) ≡ length ns
-all_go name ns = sources_all ns
+all_go name ns = zero_plus (count_sources (used_as IsSource ns)) ∙ sources_all ns
 
 -- as many numbers as names
 pub numbers_long : (names : List Name) → length (name_numbers names) ≡ length names
