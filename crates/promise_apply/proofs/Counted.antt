@@ -289,8 +289,8 @@ with_over None w v uses once so = omega arith
 with_over (Some a) w v uses once so =
     new_long (record { name = a.name; held = Promise a.root }) (without_name a.name v.names)
     ∙ over_case (used_before is_new a.name uses) (used_before is_source a.name uses) (is_name a.name w.names) (times a.name v.names) (length (without_name a.name v.names)) (length v.names)
-        (so.stand a.name ∙ ap (stood (used_before is_new a.name uses) (used_before is_source a.name uses)) (once_times a.name w.names once))
-        (gone_long a.name v.names)
+    (so.stand a.name ∙ ap (stood (used_before is_new a.name uses) (used_before is_source a.name uses)) (once_times a.name w.names once))
+    (gone_long a.name v.names)
 
 -- how many names there would be
 pub counted : (uses : List Use) (w : World) → AreOnce w.names → ArePassed uses w

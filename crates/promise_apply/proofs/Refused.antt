@@ -84,8 +84,8 @@ refusal_is rule answer inside c s uses built change is =
     let wrong = refused_name WrongKind (first_failing (is_wrong w) [] us) in
     let taken = refused_name Taken (first_failing (is_taken w) [] us) in
     let by_names = unknown_is setting c s (first_failing (is_unknown w) [] us) (or_else wrong (or_else taken full))
-        (wrong_is setting c s (first_failing (is_wrong w) [] us) (or_else taken full)
-        (taken_is rule answer c s uses built change is (first_failing (is_taken w) [] us))) in
+    (wrong_is setting c s (first_failing (is_wrong w) [] us) (or_else taken full)
+    (taken_is rule answer c s uses built change is (first_failing (is_taken w) [] us))) in
     stopped_is setting inside w.stopped c s (or_else unknown (or_else wrong (or_else taken full))) is.anywhere by_names
     ∙ ap (or_else (refused_if w.stopped Stopped)) (ap (or_else unknown) (or_else_twice wrong taken full) ∙ or_else_twice unknown (or_else wrong taken) full)
     ∙ ap (λ (xs : List Use). or_else (refused_if w.stopped Stopped) (or_else (names_refused xs w) full)) is.uses_are

@@ -35,9 +35,10 @@ pub held_known : (roots : ℕ → Option ℕ) (sources : List Source) (w : World
 held_known roots [] w before law all h = tt
 held_known roots (s ∷ ss) w before law all h =
     let p = passed_first (is_wrong w) before (use_as IsSource s.name.0) (used_as IsSource (source_names ss)) h in
-    let has = not_false (is_promise (held_at s.name.0 w.names)) p.0 in
-    (promise_held (held_at s.name.0 w.names) (roots s.name.0) s.root.number.0 has (law s.name.0) all.0,
-    held_known roots ss w (before ++ use_as IsSource s.name.0 ∷ []) law all.2 p.1)
+    let has = not_false (is_promise (held_at s.name.0 w.names)) p.0 in (
+      promise_held (held_at s.name.0 w.names) (roots s.name.0) s.root.number.0 has (law s.name.0) all.0,
+      held_known roots ss w (before ++ use_as IsSource s.name.0 ∷ []) law all.2 p.1,
+    )
 
 -- the others pass where all do
 pub rest_wrong : (name : ℕ) (ns : List ℕ) (w : World) → ArePassed (new_over name ns) w → first_failing (is_wrong w) (use_as IsNew name ∷ []) (used_as IsSource ns) ≡ None

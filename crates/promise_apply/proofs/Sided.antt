@@ -62,9 +62,10 @@ turned a b h = grind (arith, nat_tests)
 
 held_left : (n : ℕ) (left : List Source) (w v : World) → v.names ≡ without_name n w.names → is_in n (source_names left) ≡ false → AreHeld left w → AreHeld left v
 held_left n [] w v same apart h = tt
-held_left n (s ∷ ss) w v same apart h =
-    (ap (held_at s.name.0) same ∙ held_without s.name.0 n w.names (turned s.name.0 n (or_first (s.name.0 == n) (is_in n (source_names ss)) apart)) ∙ h.0,
-    held_left n ss w v same (or_second (s.name.0 == n) (is_in n (source_names ss)) apart) h.1)
+held_left n (s ∷ ss) w v same apart h = (
+  ap (held_at s.name.0) same ∙ held_without s.name.0 n w.names (turned s.name.0 n (or_first (s.name.0 == n) (is_in n (source_names ss)) apart)) ∙ h.0,
+  held_left n ss w v same (or_second (s.name.0 == n) (is_in n (source_names ss)) apart) h.1,
+)
 
 -- one Side more
 pub sided_more : (Now New : World → Type 0) (s : Source) (left all : List Source) (w : World) → is_in s.name.0 (source_names left) ≡ false
@@ -89,10 +90,11 @@ not_same a b h e = let t : nat_eq b a ≡ true = grind (arith, nat_tests) in abs
 -- the sources that are left, when one went
 pub sources_left : (roots roots' : ℕ → Option ℕ) (n : ℕ) (left : List Source) → HasRoot roots roots' n None → is_in n (source_names left) ≡ false → AreSources roots left → AreSources roots' left
 sources_left roots roots' n [] has apart h = tt
-sources_left roots roots' n (s ∷ ss) has apart h =
-    (has.1 s.name.0 (λ e. not_same n s.name.0 (or_first (s.name.0 == n) (is_in n (source_names ss)) apart) (sym e)) ∙ h.0,
-    h.1,
-    sources_left roots roots' n ss has (or_second (s.name.0 == n) (is_in n (source_names ss)) apart) h.2)
+sources_left roots roots' n (s ∷ ss) has apart h = (
+  has.1 s.name.0 (λ e. not_same n s.name.0 (or_first (s.name.0 == n) (is_in n (source_names ss)) apart) (sym e)) ∙ h.0,
+  h.1,
+  sources_left roots roots' n ss has (or_second (s.name.0 == n) (is_in n (source_names ss)) apart) h.2,
+)
 
 is_none : (root : ℕ) → ◌≡◌ {A = Option ℕ} None (Some root) → ⊥
 is_none root e = cc
@@ -144,10 +146,11 @@ not_last n (x ∷ xs) s h k =
 -- one source more
 pub sources_more : (roots : ℕ → Option ℕ) (xs : List Source) (s : Source) → AreSources roots xs → roots s.name.0 ≡ Some s.root.number.0 → is_in s.name.0 (source_names xs) ≡ false → AreSources roots (xs ++ s ∷ [])
 sources_more roots [] s all h apart = (h, refl, tt)
-sources_more roots (x ∷ xs) s all h apart =
-    (all.0,
-    not_last x.name.0 xs s all.1 (turned x.name.0 s.name.0 (or_first (x.name.0 == s.name.0) (is_in s.name.0 (source_names xs)) apart)),
-    sources_more roots xs s all.2 h (or_second (x.name.0 == s.name.0) (is_in s.name.0 (source_names xs)) apart))
+sources_more roots (x ∷ xs) s all h apart = (
+  all.0,
+  not_last x.name.0 xs s all.1 (turned x.name.0 s.name.0 (or_first (x.name.0 == s.name.0) (is_in s.name.0 (source_names xs)) apart)),
+  sources_more roots xs s all.2 h (or_second (x.name.0 == s.name.0) (is_in s.name.0 (source_names xs)) apart),
+)
 
 -- the first row alone
 pub first_row : (room : List Row → Bool) → ((front : List Row) (left : Row) (back : List Row) → IsTrue (room (front ++ left ∷ back)) → IsTrue (room (front ++ back))) → (r : Row) (rest : List Row) → IsTrue (room (r ∷ rest)) → IsTrue (room (r ∷ []))
@@ -191,10 +194,11 @@ run_below m n count h = omega (arith, h)
 -- what holds of numbers that follow each other
 pub run_all : (P : ℕ → Type 0) (count n : ℕ) → n + count < 2 ^ 64 → ((m : ℕ) → n ≤ m → m < n + count → P m) → AllByRecursion P (run_from count n)
 run_all P zero n low h = tt
-run_all P (suc count) n low h =
-    (h n (omega arith) (run_first n count),
-    subst (λ (k : ℕ). AllByRecursion P (run_from count k)) (sym (run_next n count low))
-    (run_all P count (n + 1) (run_low n count low) (λ m a b. h m (run_above m n count a) (run_below m n count b))))
+run_all P (suc count) n low h = (
+  h n (omega arith) (run_first n count),
+  subst (λ (k : ℕ). AllByRecursion P (run_from count k)) (sym (run_next n count low))
+      (run_all P count (n + 1) (run_low n count low) (λ m a b. h m (run_above m n count a) (run_below m n count b))),
+)
 
 below : (k n : ℕ) → k < n → nat_eq n k ≡ false
 below k n h = grind (arith, nat_tests)

@@ -54,7 +54,18 @@ fn apply_leaf<N: Nodes, M: Names>(
     ensures plain { OnlyRises (N.is_plain nodes.old) (N.is_plain nodes.new) }
     ensures over { M.over names.new ≡ M.over names.old }
 {
-    check(nodes, names, &[Use { role: Role::New, name }], &[NodeRow { before: None, count: 1 }])?;
+    check(
+        nodes,
+        names,
+        &[Use {
+            role: Role::New,
+            name,
+        }],
+        &[NodeRow {
+            before: None,
+            count: 1,
+        }],
+    )?;
     build_leaf(nodes, names, name, form);
     Ok(())
 }
@@ -76,8 +87,25 @@ fn apply_pair<N: Nodes, M: Names>(
     ensures plain { OnlyRises (N.is_plain nodes.old) (N.is_plain nodes.new) }
     ensures over { M.over names.new ≡ M.over names.old }
 {
-    let uses = [Use { role: Role::New, name }, Use { role: Role::New, name: cell }];
-    check(nodes, names, &uses, &[NodeRow { before: None, count: 1 }])?;
+    let uses = [
+        Use {
+            role: Role::New,
+            name,
+        },
+        Use {
+            role: Role::New,
+            name: cell,
+        },
+    ];
+    check(
+        nodes,
+        names,
+        &uses,
+        &[NodeRow {
+            before: None,
+            count: 1,
+        }],
+    )?;
     build_pair(nodes, names, name, cell);
     Ok(())
 }
@@ -100,9 +128,26 @@ fn apply_over<N: Nodes, M: Names>(
     ensures plain { OnlyRises (N.is_plain nodes.old) (N.is_plain nodes.new) }
     ensures over { M.over names.new ≡ M.over names.old }
 {
-    let uses = [Use { role: Role::New, name }, Use { role: Role::Source, name: source }];
+    let uses = [
+        Use {
+            role: Role::New,
+            name,
+        },
+        Use {
+            role: Role::Source,
+            name: source,
+        },
+    ];
     let root = root_named(names, source);
-    check(nodes, names, &uses, &[NodeRow { before: root, count: 1 }])?;
+    check(
+        nodes,
+        names,
+        &uses,
+        &[NodeRow {
+            before: root,
+            count: 1,
+        }],
+    )?;
     match root {
         Some(root) => {
             build_over(nodes, names, name, source, root, over);
@@ -130,9 +175,26 @@ fn apply_listening<N: Nodes, M: Names>(
     ensures plain { OnlyRises (N.is_plain nodes.old) (N.is_plain nodes.new) }
     ensures over { M.over names.new ≡ M.over names.old }
 {
-    let uses = [Use { role: Role::New, name }, Use { role: Role::Source, name: source }];
+    let uses = [
+        Use {
+            role: Role::New,
+            name,
+        },
+        Use {
+            role: Role::Source,
+            name: source,
+        },
+    ];
     let root = root_named(names, source);
-    check(nodes, names, &uses, &[NodeRow { before: root, count: 1 }])?;
+    check(
+        nodes,
+        names,
+        &uses,
+        &[NodeRow {
+            before: root,
+            count: 1,
+        }],
+    )?;
     match root {
         Some(root) => {
             build_listening(nodes, names, name, source, root, over);
@@ -161,9 +223,26 @@ fn apply_chain<N: Nodes, M: Names>(
     ensures plain { OnlyRises (N.is_plain nodes.old) (N.is_plain nodes.new) }
     ensures over { M.over names.new ≡ M.over names.old }
 {
-    let uses = [Use { role: Role::New, name }, Use { role: Role::Source, name: source }];
+    let uses = [
+        Use {
+            role: Role::New,
+            name,
+        },
+        Use {
+            role: Role::Source,
+            name: source,
+        },
+    ];
     let root = root_named(names, source);
-    check(nodes, names, &uses, &[NodeRow { before: root, count: 2 }])?;
+    check(
+        nodes,
+        names,
+        &uses,
+        &[NodeRow {
+            before: root,
+            count: 2,
+        }],
+    )?;
     match root {
         Some(root) => {
             build_chain(nodes, names, name, source, root, value, error);
@@ -190,8 +269,25 @@ fn apply_fork<N: Nodes, M: Names>(
     ensures plain { OnlyRises (N.is_plain nodes.old) (N.is_plain nodes.new) }
     ensures over { M.over names.new ≡ M.over names.old }
 {
-    let uses = [Use { role: Role::New, name }, Use { role: Role::Source, name: source }];
-    check(nodes, names, &uses, &[NodeRow { before: None, count: 1 }])?;
+    let uses = [
+        Use {
+            role: Role::New,
+            name,
+        },
+        Use {
+            role: Role::Source,
+            name: source,
+        },
+    ];
+    check(
+        nodes,
+        names,
+        &uses,
+        &[NodeRow {
+            before: None,
+            count: 1,
+        }],
+    )?;
     match root_named(names, source) {
         Some(root) => {
             build_fork(nodes, names, name, source, root);
@@ -218,8 +314,25 @@ fn apply_branch<N: Nodes, M: Names>(
     ensures plain { OnlyRises (N.is_plain nodes.old) (N.is_plain nodes.new) }
     ensures over { M.over names.new ≡ M.over names.old }
 {
-    let uses = [Use { role: Role::New, name }, Use { role: Role::Hub, name: hub }];
-    check(nodes, names, &uses, &[NodeRow { before: None, count: 1 }])?;
+    let uses = [
+        Use {
+            role: Role::New,
+            name,
+        },
+        Use {
+            role: Role::Hub,
+            name: hub,
+        },
+    ];
+    check(
+        nodes,
+        names,
+        &uses,
+        &[NodeRow {
+            before: None,
+            count: 1,
+        }],
+    )?;
     match hub_named(names, hub) {
         Some(node) => {
             build_branch(nodes, names, name, hub, node);
@@ -246,7 +359,15 @@ fn apply_outcome<N: Nodes, M: Names>(
     ensures plain { OnlyRises (N.is_plain nodes.old) (N.is_plain nodes.new) }
     ensures over { M.over names.new ≡ M.over names.old }
 {
-    check(nodes, names, &[Use { role: Role::Cell, name }], &[])?;
+    check(
+        nodes,
+        names,
+        &[Use {
+            role: Role::Cell,
+            name,
+        }],
+        &[],
+    )?;
     match cell_named(names, name) {
         Some(cell) => {
             settle_cell(nodes, names, name, cell, outcome);
@@ -272,7 +393,15 @@ fn apply_drop_cell<N: Nodes, M: Names>(
     ensures plain { OnlyRises (N.is_plain nodes.old) (N.is_plain nodes.new) }
     ensures over { M.over names.new ≡ M.over names.old }
 {
-    check(nodes, names, &[Use { role: Role::Cell, name }], &[])?;
+    check(
+        nodes,
+        names,
+        &[Use {
+            role: Role::Cell,
+            name,
+        }],
+        &[],
+    )?;
     match cell_named(names, name) {
         Some(cell) => {
             drop_cell(nodes, names, name, cell);
@@ -299,7 +428,18 @@ fn apply_detach<N: Nodes, M: Names>(
     ensures over { M.over names.new ≡ M.over names.old }
 {
     let root = root_named(names, source);
-    check(nodes, names, &[Use { role: Role::Source, name: source }], &[NodeRow { before: root, count: 1 }])?;
+    check(
+        nodes,
+        names,
+        &[Use {
+            role: Role::Source,
+            name: source,
+        }],
+        &[NodeRow {
+            before: root,
+            count: 1,
+        }],
+    )?;
     match root {
         Some(root) => {
             detach(nodes, names, source, root);
@@ -315,9 +455,15 @@ fn joined_uses(name: Name, wanted: &[Name]) -> ArrayVec<Use, MAX_USES>
     ensures { uses_shown result.items ≡ new_over name.0 (name_numbers wanted.now) }
 {
     let mut uses = ArrayVec::new();
-    uses.push(Use { role: Role::New, name });
+    uses.push(Use {
+        role: Role::New,
+        name,
+    });
     for source in wanted {
-        uses.push(Use { role: Role::Source, name: *source });
+        uses.push(Use {
+            role: Role::Source,
+            name: *source,
+        });
     }
     uses
 }
@@ -329,9 +475,15 @@ fn joined_rows<M: Names>(names: &M, wanted: &[Name]) -> ArrayVec<NodeRow, MAX_US
 {
     let mut rows = ArrayVec::new();
     for source in wanted {
-        rows.push(NodeRow { before: root_named(names, *source), count: 1 });
+        rows.push(NodeRow {
+            before: root_named(names, *source),
+            count: 1,
+        });
     }
-    rows.push(NodeRow { before: None, count: 1 });
+    rows.push(NodeRow {
+        before: None,
+        count: 1,
+    });
     rows
 }
 

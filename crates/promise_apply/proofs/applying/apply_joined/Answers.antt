@@ -49,10 +49,10 @@ returns-in-Some-clause-applied g c cmd is =
     (λ w old. sym (c.in_ok-check.ensures.refusal w old ∙ ap (λ (us : List Use). refused_for g.N.Nodes.rule us rowed w) uses))
     (λ w old p. rows ∙ ap (λ (rs : List Row). rs ++ row None 1 ∷ []) (rows_known roots ns w (use_as IsNew name ∷ []) (λ n r h. g.met.M.Names.roots_are c.args.names.now w n r old.1 h) (rest_wrong name ns w p)))
     (λ w old p.
-        let wrong = subst (λ (l : List ℕ). first_failing (is_wrong w) (use_as IsNew name ∷ []) (used_as IsSource l) ≡ None) (sym same) (rest_wrong name ns w p) in
-        let held = held_known roots slice w (use_as IsNew name ∷ []) (λ n r h. g.met.M.Names.roots_are c.args.names.now w n r old.1 h) all wrong in
-        subst (λ (l : List ℕ). Both (g.N.Nodes.stands c.build_joined.new.nodes) (g.M.Names.stands c.build_joined.new.names) (joined_built c.args.kind name l w)) same
-        (c.build_joined.ensures.stands w old held (sides_listless name (source_names slice) w (new_absent name (used_as IsSource ns) w p))))
+    let wrong = subst (λ (l : List ℕ). first_failing (is_wrong w) (use_as IsNew name ∷ []) (used_as IsSource l) ≡ None) (sym same) (rest_wrong name ns w p) in
+    let held = held_known roots slice w (use_as IsNew name ∷ []) (λ n r h. g.met.M.Names.roots_are c.args.names.now w n r old.1 h) all wrong in
+    subst (λ (l : List ℕ). Both (g.N.Nodes.stands c.build_joined.new.nodes) (g.M.Names.stands c.build_joined.new.names) (joined_built c.args.kind name l w)) same
+    (c.build_joined.ensures.stands w old held (sides_listless name (source_names slice) w (new_absent name (used_as IsSource ns) w p))))
 
 pub returns-in-None-clause-applied : goal.returns-in-None-clause-applied
 returns-in-None-clause-applied g c cmd is =

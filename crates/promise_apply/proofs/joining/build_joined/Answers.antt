@@ -55,8 +55,8 @@ returns-clause-free g c =
     let more = sides.ensures.next in
     let has = subst (λ (n : ℕ). HasRoot roots roots2 c.args.name.0 (Some n)) c.build-join.ensures.number c.set.ensures.root in
     let misses = λ (k : ℕ) (low : k < next). ap (is_in k) c.joined_form-form.ensures.parts
-        ∙ ap (λ (n : ℕ). is_in k (run_from count n)) sides.ensures.number
-        ∙ run_misses k count next (omega (arith, few, numbers)) low in
+    ∙ ap (λ (n : ℕ). is_in k (run_from count n)) sides.ensures.number
+    ∙ run_misses k count next (omega (arith, few, numbers)) low in
     let free2 = free_taken roots taken taken2 next sides.ensures.free (λ k low h. c.build-join.ensures.taken k h (misses k low)) in
     let free3 = free_more roots roots2 taken2 taken2 next1 c.args.name.0 (free_later roots taken2 next next1 free2 (omega (arith, more))) has (λ n h. h) (ap taken2 (sym c.build-join.ensures.number) ∙ c.build-join.ensures.root) in
     let free4 = free_taken roots2 taken2 taken3 (next1 + 1) free3 (λ k low h. c.listen_each.ensures.taken k h) in

@@ -67,8 +67,9 @@ loop-i-preserved g c =
     let counted_before = now.count in
     let next_after = take.next in
     let first : c.if-i-eq0.first.number.0 ≡ n = elim c.if-i-eq0.branch [
-      then-i-eq0 w ↦ ap (λ (l : Link). l.number.0) w.first-is ∙ take.number ∙ built ∙ (let zero = w.if-i-eq0.true in omega (arith, zero)) |
-      else-i-eq0 w ↦ ap (λ (l : Link). l.number.0) w.first-is ∙ now.first ] in
+      | then-i-eq0 w ↦ ap (λ (l : Link). l.number.0) w.first-is ∙ take.number ∙ built ∙ (let zero = w.if-i-eq0.true in omega (arith, zero))
+      | else-i-eq0 w ↦ ap (λ (l : Link). l.number.0) w.first-is ∙ now.first
+    ] in
     record {
       sources = sources_left roots roots2 s.name.0 left take.roots all.1 all.2;
       fits = take.rest (tree_rows (source_trees left) ++ row None 1 ∷ []) 1 (omega arith) (sources_built roots taken (g.N.Nodes.next c.loop-i.nodes) left later all.2) rows;
