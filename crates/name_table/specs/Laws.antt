@@ -1,17 +1,18 @@
 -- The laws of a keeper of names, for the table.
-use Rattle.std.proofs.Common.{◌≡◌, ℕ, ◌<◌, false, List, [], ◌∷◌, None, refl, sym, subst, ap, ◌∙◌, arith}
+use Rattle.std.proofs.Common.{◌≡◌, ℕ, ◌<◌, Bool, true, false, List, [], ◌∷◌, Option, None, Some, refl, sym, subst, ap, ◌∙◌, arith}
 use Rattle.std.specs.Prelude.{nat_eq}
 use Rattle.std.specs.List.{AllByRecursion}
 use Rattle.std.proofs.lemmas.Bool.Decides.{nat_tests}
-use Rattle.kj_model.specs.World.{World, held_at}
+use Rattle.kj_model.specs.World.{World, Held as Seen, Promise as PromiseSeen, held_at}
 use Rattle.kj_model.specs.Fire.{group_of}
 use Rattle.promise_nodes.specs.Kept.{SameNames}
 use Rattle.promise_names.specs.Once.{AreOnce}
 use Rattle.promise_names.specs.declared.names.Held.{Held}
 use Rattle.promise_names.specs.declared.names.Held.TheVariants.{Promise, CellOf, AskCell, HubOf, Group, Canceler, RequestOf}
 use Rattle.name_table.specs.declared.entries.Entry.{Entry}
-use Rattle.name_table.specs.Entries.{IsRising, names_of}
-use Rattle.name_table.specs.Table.{Table, Stands, trees}
+use Rattle.promise_names.specs.Held.{held_shown, root_of}
+use Rattle.name_table.specs.Entries.{IsRising, held_in, names_of}
+use Rattle.name_table.specs.Table.{Table, Stands, trees, root_at}
 
 -- nodes don't matter
 pub table_nodes_free : (t : Table) (w v : World) → SameNames w v → Stands t w → Stands t v
@@ -56,3 +57,25 @@ table_once t w st = subst AreOnce (sym st.names) (rising_once t.entries st.risin
 -- the limit is the world's
 pub table_limit_is : (t : Table) (w : World) → Stands t w → w.limits.names ≡ t.limit
 table_limit_is t w st = st.limit
+
+root_case : (root : ℕ) (h : Held) → ◌≡◌ {A = Option Seen} (Some (held_shown [] h)) (Some (PromiseSeen root)) → root_of (Some h) ≡ Some root
+root_case root (Promise link) is = cc
+root_case root (CellOf cell) is = absurd cc
+root_case root (AskCell cell taken) is = absurd cc
+root_case root (HubOf hub) is = absurd cc
+root_case root (Group error empty) is = absurd cc
+root_case root Canceler is = absurd cc
+root_case root (RequestOf request) is = absurd cc
+
+root_step : (name root : ℕ) (e : Entry) (es : List Entry) (b : Bool) → nat_eq e.name.0 name ≡ b → (held_at name (names_of es) ≡ Some (PromiseSeen root) → root_of (held_in name es) ≡ Some root)
+    → held_at name (names_of (e ∷ es)) ≡ Some (PromiseSeen root) → root_of (held_in name (e ∷ es)) ≡ Some root
+root_step name root e es true t ih is = rw t (root_case root e.held (rw t at is))
+root_step name root e es false t ih is = rw t (ih (rw t at is))
+
+root_held : (name root : ℕ) (es : List Entry) → held_at name (names_of es) ≡ Some (PromiseSeen root) → root_of (held_in name es) ≡ Some root
+root_held name root [] is = absurd cc
+root_held name root (e ∷ es) is = root_step name root e es (nat_eq e.name.0 name) refl (root_held name root es) is
+
+-- each promise has its root
+pub table_roots_are : (t : Table) (w : World) (name root : ℕ) → Stands t w → held_at name w.names ≡ Some (PromiseSeen root) → root_at t name ≡ Some root
+table_roots_are t w name root st is = root_held name root t.entries (sym (ap (held_at name) st.names) ∙ is)

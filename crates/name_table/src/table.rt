@@ -135,7 +135,7 @@ impl Names for NameTable {
         left_over::drop_tree(&mut self.over, tree);
     }
 
-    ghost use Rattle.name_table.specs.Laws.{table_nodes_free, table_over_is, table_no_tasks, table_once, table_limit_is};
+    ghost use Rattle.name_table.specs.Laws.{table_nodes_free, table_over_is, table_no_tasks, table_once, table_limit_is, table_roots_are};
 
     ghost nodes_free = { table_nodes_free };
 
@@ -146,4 +146,6 @@ impl Names for NameTable {
     ghost once = { table_once };
 
     ghost limit_is = { table_limit_is };
+
+    ghost roots_are = { table_roots_are };
 }

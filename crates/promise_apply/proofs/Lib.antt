@@ -2,3 +2,8 @@ pub mod Uses
 pub mod Roots
 pub mod Same
 pub mod Live
+pub mod Sided
+pub mod Refused
+pub mod Counted
+pub mod Passed
+pub mod Several

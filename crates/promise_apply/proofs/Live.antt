@@ -61,3 +61,7 @@ absent_case false f = refl
 -- and no task of the loop's own set, as those were built before
 pub unlisted_task : (next n : ℕ) (w : World) → (is_in n w.detached ≡ true → n < next) → n ≡ next → (v : World) → v.detached ≡ w.detached → is_in n v.detached ≡ false
 unlisted_task next n w below e v same = rw same (absent_case (is_in n w.detached) (λ h. not_below n next e (below h)))
+
+-- building one changes no name
+pub built_held : (before : Option ℕ) (form : Form) (w : World) → (built before form w).names ≡ w.names
+built_held before form w = ap (λ (v : World). v.names) (placed_same before w)

@@ -13,7 +13,7 @@ name_case : (b : Bool) (name : ℕ) (x : Named) (xs : List Named) → (x.name ==
 name_case true name x xs e h = rw e refl
 name_case false name x xs e h = rw e h
 
-name_held : (name : ℕ) (names : List Named) → is_name name names ≡ is_some (held_at name names)
+pub name_held : (name : ℕ) (names : List Named) → is_name name names ≡ is_some (held_at name names)
 name_held name [] = refl
 name_held name (x ∷ xs) = name_case (x.name == name) name x xs refl (name_held name xs)
 

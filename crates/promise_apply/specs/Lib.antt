@@ -1,2 +1,4 @@
 pub mod Building
 pub mod Uses
+pub mod Joining
+pub mod Applying

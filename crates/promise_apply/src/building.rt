@@ -1,15 +1,16 @@
 //! Commands that build one node.
-ghost use Rattle.std.specs.Prelude.{◌≡◌, ◌+◌, ◌<◌, ◌≤◌, ◌^◌, [], ◌∷◌, ℕ, Option, None, Some, Bool, true, false, IsTrue};
-ghost use Rattle.kj_base.specs.Places.{row};
+ghost use Rattle.std.specs.Prelude.{◌≡◌, ◌+◌, ◌<◌, ◌≤◌, ◌^◌, [], ◌∷◌, ℕ, List, Option, None, Some, Bool, true, false, IsTrue};
+ghost use Rattle.kj_base.specs.Places.{Row as RowSeen, row};
 ghost use Rattle.kj_model.specs.World.{World, Promise, held_at};
-ghost use Rattle.kj_model.specs.Nodes.{parts_of, Task};
+ghost use Rattle.kj_model.specs.Nodes.{parts_of, form_at, Task};
 ghost use Rattle.kj_model.specs.Changes.{named};
 ghost use Rattle.kj_model.specs.Effects.{leaf_built, over_built, over_named, detached_built};
 ghost use Rattle.promise_nodes.specs.Shown.{shown};
+ghost use Rattle.promise_nodes.specs.Kept.{AreRowsBuilt, OnlyRises, RisesIn, rows_left};
 ghost use Rattle.promise_names.specs.Held.{AreFree, HasRoot, IsListless};
 ghost use Rattle.promise_apply.specs.Building.{over_shown, Both};
 
-use kj_base::{Content, Form, Link, Name, StepId};
+use kj_base::{Content, Form, Link, Name, Stage, StepId};
 use promise_listening::listen;
 use promise_names::{Held, Names};
 use promise_nodes::Nodes;
@@ -27,6 +28,8 @@ pub enum Over {
         canceler: Name,
     },
     Task,
+    /// One part of a race or a join.
+    Side,
 }
 
 fn form_over(over: Over, tree: Link) -> Form
@@ -47,6 +50,9 @@ fn form_over(over: Over, tree: Link) -> Form
             content: Content::Tree(tree),
         },
         Over::Task => Form::Task { tree: Some(tree) },
+        Over::Side => Form::Side {
+            stage: Stage::Waits(tree),
+        },
     }
 }
 
@@ -61,9 +67,13 @@ pub fn build_leaf<N: Nodes, M: Names>(nodes: &mut N, names: &mut M, name: Name, 
     ensures stands { (w : World) → Both (N.stands nodes.old) (M.stands names.old) w → IsListless (held_at name.0 w.names) → Both (N.stands nodes.new) (M.stands names.new) (leaf_built name.0 (shown [] form) w) }
     ensures free { AreFree (M.roots names.new) (N.is_taken nodes.new) (N.next nodes.new) }
     ensures next { N.next nodes.new ≡ N.next nodes.old + 1 }
+    ensures anew { (w : World) → N.stands nodes.old w → form_at (N.next nodes.old) w.nodes ≡ None }
+    ensures unlisted { N.is_listed nodes.new result.number.0 ≡ false }
     ensures few { M.count names.new ≤ M.count names.old + 1 }
     ensures limit { M.limit names.new ≡ M.limit names.old }
     ensures slots { N.slots nodes.new ≡ N.slots nodes.old }
+    ensures plain { OnlyRises (N.is_plain nodes.old) (N.is_plain nodes.new) }
+    ensures over { M.over names.new ≡ M.over names.old }
 {
     let leaf = nodes.build(None, form);
     names.set(name, Held::Promise(leaf));
@@ -71,7 +81,7 @@ pub fn build_leaf<N: Nodes, M: Names>(nodes: &mut N, names: &mut M, name: Name, 
 }
 
 // A node over the tree of a source, whose name goes.
-fn take_source<N: Nodes, M: Names>(
+pub(crate) fn take_source<N: Nodes, M: Names>(
     nodes: &mut N,
     names: &mut M,
     source: Name,
@@ -85,11 +95,16 @@ fn take_source<N: Nodes, M: Names>(
     ensures number { result.number.0 ≡ N.next nodes.old }
     ensures stands { (w : World) → Both (N.stands nodes.old) (M.stands names.old) w → held_at source.0 w.names ≡ Some (Promise root.number.0) → Both (N.stands nodes.new) (M.stands names.new) (over_built (over_shown over) source.0 w) }
     ensures free { AreFree (M.roots names.new) (N.is_taken nodes.new) (N.next nodes.old) }
+    ensures rest { (more : List RowSeen) (count : ℕ) → 0 < count → AreRowsBuilt (N.next nodes.old) more → IsTrue (N.room nodes.old (row (Some root.number.0) count ∷ more)) → IsTrue (N.room nodes.new (rows_left (N.next nodes.old) count more)) }
+    ensures roots { HasRoot (M.roots names.old) (M.roots names.new) source.0 None }
     ensures root { N.is_taken nodes.new result.number.0 ≡ false }
+    ensures taken { RisesIn (root.number.0 ∷ []) (N.is_taken nodes.old) (N.is_taken nodes.new) }
     ensures next { N.next nodes.new ≡ N.next nodes.old + 1 }
     ensures count { M.count names.new + 1 ≡ M.count names.old }
     ensures limit { M.limit names.new ≡ M.limit names.old }
     ensures slots { N.slots nodes.new ≡ N.slots nodes.old }
+    ensures plain { OnlyRises (N.is_plain nodes.old) (N.is_plain nodes.new) }
+    ensures over { M.over names.new ≡ M.over names.old }
 {
     names.remove(source);
     nodes.build(Some(root), form_over(over, root))
@@ -113,8 +128,11 @@ pub fn build_over<N: Nodes, M: Names>(
     ensures stands { (w : World) → Both (N.stands nodes.old) (M.stands names.old) w → held_at source.0 w.names ≡ Some (Promise root.number.0) → IsListless (held_at name.0 (over_built (over_shown over) source.0 w).names) → Both (N.stands nodes.new) (M.stands names.new) (over_named name.0 (over_shown over) source.0 w) }
     ensures free { AreFree (M.roots names.new) (N.is_taken nodes.new) (N.next nodes.new) }
     ensures next { N.next nodes.new ≡ N.next nodes.old + 1 }
+    ensures few { M.count names.new ≤ M.count names.old }
     ensures limit { M.limit names.new ≡ M.limit names.old }
     ensures slots { N.slots nodes.new ≡ N.slots nodes.old }
+    ensures plain { OnlyRises (N.is_plain nodes.old) (N.is_plain nodes.new) }
+    ensures over { M.over names.new ≡ M.over names.old }
 {
     let node = take_source(nodes, names, source, root, over);
     names.set(name, Held::Promise(node));
@@ -130,8 +148,11 @@ pub fn detach<N: Nodes, M: Names>(nodes: &mut N, names: &mut M, source: Name, ro
     ensures stands { (w : World) → Both (N.stands nodes.old) (M.stands names.old) w → held_at source.0 w.names ≡ Some (Promise root.number.0) → Both (N.stands nodes.new) (M.stands names.new) (detached_built source.0 w) }
     ensures free { AreFree (M.roots names.new) (N.is_taken nodes.new) (N.next nodes.new) }
     ensures next { N.next nodes.new ≡ N.next nodes.old + 1 }
+    ensures few { M.count names.new ≤ M.count names.old }
     ensures limit { M.limit names.new ≡ M.limit names.old }
     ensures slots { N.slots nodes.new ≡ N.slots nodes.old }
+    ensures plain { OnlyRises (N.is_plain nodes.old) (N.is_plain nodes.new) }
+    ensures over { M.over names.new ≡ M.over names.old }
 {
     let task = take_source(nodes, names, source, root, Over::Task);
     nodes.enlist(task);

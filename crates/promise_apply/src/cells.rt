@@ -5,6 +5,7 @@ ghost use Rattle.kj_base.specs.declared.outcomes.Outcome.{Outcome};
 ghost use Rattle.kj_model.specs.World.{World, CellOf, held_at};
 ghost use Rattle.kj_model.specs.Outcomes.{fulfiller_dropped};
 ghost use Rattle.kj_model.specs.Effects.{cell_settled, cell_dropped};
+ghost use Rattle.promise_nodes.specs.Kept.{OnlyFalls, OnlyRises};
 ghost use Rattle.promise_names.specs.Held.{AreFree, IsListless};
 ghost use Rattle.promise_apply.specs.Building.{AreNew, Both, pair_built};
 
@@ -26,8 +27,11 @@ pub fn build_pair<N: Nodes, M: Names>(nodes: &mut N, names: &mut M, name: Name, 
     ensures stands { (w : World) → Both (N.stands nodes.old) (M.stands names.old) w → AreNew name.0 cell.0 w → Both (N.stands nodes.new) (M.stands names.new) (pair_built name.0 cell.0 w) }
     ensures free { AreFree (M.roots names.new) (N.is_taken nodes.new) (N.next nodes.new) }
     ensures next { N.next nodes.new ≡ N.next nodes.old + 1 }
+    ensures few { M.count names.new ≤ M.count names.old + 2 }
     ensures limit { M.limit names.new ≡ M.limit names.old }
     ensures slots { N.slots nodes.new ≡ N.slots nodes.old }
+    ensures plain { OnlyRises (N.is_plain nodes.old) (N.is_plain nodes.new) }
+    ensures over { M.over names.new ≡ M.over names.old }
 {
     let leaf = build_leaf(nodes, names, name, Form::Cell { outcome: None });
     names.set(cell, Held::CellOf(leaf));
@@ -43,8 +47,10 @@ pub fn settle_cell<N: Nodes, M: Names>(
     outcome: Outcome,
 )
     ensures stands { (w : World) → Both (N.stands nodes.old) (M.stands _names.now) w → held_at _name.0 w.names ≡ Some (CellOf cell.number.0) → Both (N.stands nodes.new) (M.stands _names.now) (cell_settled _name.0 outcome w) }
+    ensures taken { OnlyFalls (N.is_taken nodes.old) (N.is_taken nodes.new) }
     ensures next { N.next nodes.new ≡ N.next nodes.old }
     ensures slots { N.slots nodes.new ≡ N.slots nodes.old }
+    ensures plain { OnlyRises (N.is_plain nodes.old) (N.is_plain nodes.new) }
 {
     settle(nodes, Way::DepthFirst, cell, outcome);
 }
@@ -60,10 +66,15 @@ fn dropped() -> Outcome
 
 /// The name of a fulfiller goes, and a cell that waits gets the exception of a dropped fulfiller.
 pub fn drop_cell<N: Nodes, M: Names>(nodes: &mut N, names: &mut M, name: Name, cell: Link)
+    requires free { AreFree (M.roots names.old) (N.is_taken nodes.old) (N.next nodes.old) }
     ensures stands { (w : World) → Both (N.stands nodes.old) (M.stands names.old) w → held_at name.0 w.names ≡ Some (CellOf cell.number.0) → Both (N.stands nodes.new) (M.stands names.new) (cell_dropped name.0 w) }
+    ensures free { AreFree (M.roots names.new) (N.is_taken nodes.new) (N.next nodes.new) }
     ensures next { N.next nodes.new ≡ N.next nodes.old }
+    ensures few { M.count names.new ≤ M.count names.old }
     ensures limit { M.limit names.new ≡ M.limit names.old }
     ensures slots { N.slots nodes.new ≡ N.slots nodes.old }
+    ensures plain { OnlyRises (N.is_plain nodes.old) (N.is_plain nodes.new) }
+    ensures over { M.over names.new ≡ M.over names.old }
 {
     names.remove(name);
     settle(nodes, Way::DepthFirst, cell, dropped());

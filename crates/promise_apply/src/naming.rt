@@ -40,6 +40,16 @@ pub struct Use {
     pub name: Name,
 }
 
+/// What stands in the places of an array of names that aren't used.
+impl Default for Use {
+    fn default() -> Use {
+        Use {
+            role: Role::Droppable,
+            name: Name(0),
+        }
+    }
+}
+
 /// Why a name refuses a command.
 #[derive(Clone, Copy, Debug, PartialEq, Eq)]
 pub enum Fault {
@@ -51,7 +61,7 @@ pub enum Fault {
     Taken,
 }
 
-fn is_new_role(role: Role) -> bool
+pub(crate) fn is_new_role(role: Role) -> bool
     ensures { result ≡ is_new (role_shown role) }
 {
     match role {
@@ -61,7 +71,7 @@ fn is_new_role(role: Role) -> bool
     }
 }
 
-fn is_source_role(role: Role) -> bool
+pub(crate) fn is_source_role(role: Role) -> bool
     ensures { result ≡ is_source (role_shown role) }
 {
     match role {
@@ -71,7 +81,7 @@ fn is_source_role(role: Role) -> bool
     }
 }
 
-fn is_there<M: Names>(names: &M, name: Name) -> bool
+pub(crate) fn is_there<M: Names>(names: &M, name: Name) -> bool
     ensures { (w : World) → M.stands names.now w → result ≡ is_name name.0 w.names }
 {
     names.get(name).is_some()
@@ -93,13 +103,13 @@ fn some_source(before: &[Use], name: Name) -> bool
         .any(|used| is_source_role(used.role) && used.name.0 == name.0)
 }
 
-fn is_new_before(before: &[Use], name: Name) -> bool
+pub(crate) fn is_new_before(before: &[Use], name: Name) -> bool
     ensures { result ≡ used_before is_new name.0 (uses_shown before.now) }
 {
     some_new(before, name)
 }
 
-fn is_source_before(before: &[Use], name: Name) -> bool
+pub(crate) fn is_source_before(before: &[Use], name: Name) -> bool
     ensures { result ≡ used_before is_source name.0 (uses_shown before.now) }
 {
     some_source(before, name)

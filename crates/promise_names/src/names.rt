@@ -1,6 +1,6 @@
 //! A keeper of names.
 ghost use Rattle.std.specs.Prelude.{◌≡◌, ◌+◌, ◌<◌, ◌≤◌, ◌++◌, ◌∷◌, [], ℕ, List, Option, None, Some, Bool, true, false, IsSome, length, slice_get};
-ghost use Rattle.kj_model.specs.World.{World, Awaited, held_at};
+ghost use Rattle.kj_model.specs.World.{World, Awaited, Promise, held_at};
 ghost use Rattle.kj_model.specs.Nodes.{dropped};
 ghost use Rattle.kj_model.specs.Changes.{named, unnamed};
 ghost use Rattle.kj_model.specs.Fire.{group_of, without_left_over};
@@ -181,6 +181,9 @@ pub trait Names {
 
     /// How many names there may be in each world that it stands for.
     ghost limit_is: { (names : Self) (w : World) → stands names w → w.limits.names ≡ limit names };
+
+    /// The root of each promise in each world that it stands for.
+    ghost roots_are: { (names : Self) (w : World) (name root : ℕ) → stands names w → held_at name w.names ≡ Some (Promise root) → roots names name ≡ Some root };
 
     /// No set has a task.
     ghost no_tasks: { (names : Self) (w : World) (n : ℕ) → stands names w → group_of n w.names ≡ None };

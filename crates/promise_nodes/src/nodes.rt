@@ -30,6 +30,16 @@ pub struct NodeRow {
     pub count: u8,
 }
 
+/// What stands in the places of an array of rows that aren't used.
+impl Default for NodeRow {
+    fn default() -> NodeRow {
+        NodeRow {
+            before: None,
+            count: 1,
+        }
+    }
+}
+
 /// Keeps the nodes of a loop, its event queue, the event that fires and the tree that a wait awaits; it knows no names.
 /// A link says which node is meant by its number; its slot only finds it sooner. No call takes memory.
 ///

@@ -1,0 +1,30 @@
+use Rattle.std.proofs.Common.{◌≡◌, ℕ, ◌≤◌, List, [], ◌∷◌, ◌++◌, Option, None, Some, refl, sym, ap, subst, ◌∙◌}
+use Rattle.kj_base.specs.Places.{Row, row}
+use Rattle.kj_base.specs.Commands.{step_of}
+use Rattle.kj_model.specs.Nodes.{Cell}
+use Rattle.kj_model.specs.World.{World, held_at}
+use Rattle.kj_model.specs.Effects.{node_named, leaf_built, over_named, over_listening, chain_built, fork_built, branch_built, cell_settled, cell_dropped, detached_built}
+use Rattle.kj_model.specs.Uses.{Use, use_as, new_over, IsNew, IsSource, IsCell, IsHub, is_promise, is_cell, is_hub}
+use Rattle.kj_model.specs.Apply.{anew, before_source}
+use Rattle.promise_nodes.specs.Shown.{shown, link_number}
+use Rattle.promise_apply.specs.Building.{Both, over_shown, then_shown, pair_built}
+use Rattle.promise_apply.proofs.Refused.{refused_so, done_applies}
+use Rattle.promise_apply.proofs.Passed.{new_absent, second_absent, first_role, second_role, promise_root, promise_held, promise_there, cell_held, cell_there, hub_held, hub_there, listless, unnamed_listless, over_listless, leaf_listless}
+use Rattle.promise_apply.proofs.applying.apply_chain.Goals as goal
+
+pub returns-in_err-check-clause-applied : goal.returns-in_err-check-clause-applied
+returns-in_err-check-clause-applied g c cmd is =
+    refused_so (Both (g.N.Nodes.stands c.args.nodes.now) (g.M.Names.stands c.args.names.now)) g.N.Nodes.rule c.from_residual.result c.in_err-check.field-0.0 cmd (new_over c.args.name.0 (c.args.source.0 ∷ [])) (row (link_number c.root_named-root.result) 2 ∷ []) (λ w. before_source 2 c.args.source.0 w ∷ []) (chain_built c.args.name.0 c.args.source.0 (step_of c.args.value) (step_of c.args.error)) c.from_residual.ensures.1 is
+    (λ w old. c.in_err-check.ensures.refusal w old) (λ w old p. ap (λ (o : Option ℕ). row o 2 ∷ []) (c.root_named-root.ensures ∙ promise_root (held_at c.args.source.0 w.names) (g.M.Names.roots c.args.names.now c.args.source.0) (second_role IsSource c.args.source.0 (use_as IsNew c.args.name.0) [] w p) (λ r h. g.met.M.Names.roots_are c.args.names.now w c.args.source.0 r old.1 h)))
+
+pub returns-in-Some-clause-applied : goal.returns-in-Some-clause-applied
+returns-in-Some-clause-applied g c cmd is =
+    done_applies (Both (g.N.Nodes.stands c.args.nodes.now) (g.M.Names.stands c.args.names.now)) (Both (g.N.Nodes.stands c.build_chain.new.nodes) (g.M.Names.stands c.build_chain.new.names)) g.N.Nodes.rule cmd (new_over c.args.name.0 (c.args.source.0 ∷ [])) (row (link_number c.root_named-root.result) 2 ∷ []) (λ w. before_source 2 c.args.source.0 w ∷ []) (chain_built c.args.name.0 c.args.source.0 (step_of c.args.value) (step_of c.args.error)) is
+    (λ w old. sym (c.in_ok-check.ensures.refusal w old)) (λ w old p. ap (λ (o : Option ℕ). row o 2 ∷ []) (c.root_named-root.ensures ∙ promise_root (held_at c.args.source.0 w.names) (g.M.Names.roots c.args.names.now c.args.source.0) (second_role IsSource c.args.source.0 (use_as IsNew c.args.name.0) [] w p) (λ r h. g.met.M.Names.roots_are c.args.names.now w c.args.source.0 r old.1 h)))
+    (λ w old p. c.build_chain.ensures.stands w old (promise_held (held_at c.args.source.0 w.names) (g.M.Names.roots c.args.names.now c.args.source.0) c.in-Some.root.number.0 (second_role IsSource c.args.source.0 (use_as IsNew c.args.name.0) [] w p) (λ r h. g.met.M.Names.roots_are c.args.names.now w c.args.source.0 r old.1 h) (sym (c.root_named-root.ensures) ∙ ap link_number c.in-Some.is)) (over_listless c.args.name.0 c.args.source.0 (then_shown c.args.value c.args.error) w (new_absent c.args.name.0 (use_as IsSource c.args.source.0 ∷ []) w p)))
+
+pub returns-in-None-clause-applied : goal.returns-in-None-clause-applied
+returns-in-None-clause-applied g c cmd is =
+    done_applies (Both (g.N.Nodes.stands c.args.nodes.now) (g.M.Names.stands c.args.names.now)) (Both (g.N.Nodes.stands c.args.nodes.now) (g.M.Names.stands c.args.names.now)) g.N.Nodes.rule cmd (new_over c.args.name.0 (c.args.source.0 ∷ [])) (row (link_number c.root_named-root.result) 2 ∷ []) (λ w. before_source 2 c.args.source.0 w ∷ []) (chain_built c.args.name.0 c.args.source.0 (step_of c.args.value) (step_of c.args.error)) is
+    (λ w old. sym (c.in_ok-check.ensures.refusal w old)) (λ w old p. ap (λ (o : Option ℕ). row o 2 ∷ []) (c.root_named-root.ensures ∙ promise_root (held_at c.args.source.0 w.names) (g.M.Names.roots c.args.names.now c.args.source.0) (second_role IsSource c.args.source.0 (use_as IsNew c.args.name.0) [] w p) (λ r h. g.met.M.Names.roots_are c.args.names.now w c.args.source.0 r old.1 h)))
+    (λ w old p. absurd (promise_there (held_at c.args.source.0 w.names) (second_role IsSource c.args.source.0 (use_as IsNew c.args.name.0) [] w p) (λ r h. sym (ap link_number c.in-None.is) ∙ c.root_named-root.ensures ∙ g.met.M.Names.roots_are c.args.names.now w c.args.source.0 r old.1 h)))
