@@ -5,7 +5,7 @@ ghost use Rattle.xthread.specs.Told.{IsReady};
 ghost use Rattle.executor_tests.specs.Callers.{IsIdle, HasOne, IsIdleTarget};
 
 use anyhow::{Result, bail, ensure};
-use executor_tests::{Item, Tally, ask, ask_and_watch, one_word, serve, settle};
+use executor_tests::{Item, Tally, ask, one_word, serve, settle};
 use kj_base::StepId;
 use std::alloc::Global;
 use std::rt::Clock;
@@ -20,8 +20,6 @@ use xthread::{Executor, ExecutorPass, Ticket};
 pub(crate) enum Way {
     // It waits for the outcome, while a target serves.
     RoundTrip,
-    // The same, and it looks for the end without the lock.
-    Sight,
     // One thread has as many requests outstanding as there would be threads, and waits for all of them, round by round.
     Batch,
     // It withdraws the request at once, and no target serves.
@@ -37,7 +35,7 @@ pub(crate) struct Race {
 }
 
 // Each race with its word.
-pub(crate) static RACES: [(&str, Race); 7] = [
+pub(crate) static RACES: [(&str, Race); 5] = [
     (
         "round-trips-1",
         Race {
@@ -49,20 +47,6 @@ pub(crate) static RACES: [(&str, Race); 7] = [
         "round-trips-4",
         Race {
             way: Way::RoundTrip,
-            threads: 4,
-        },
-    ),
-    (
-        "sights-1",
-        Race {
-            way: Way::Sight,
-            threads: 1,
-        },
-    ),
-    (
-        "sights-4",
-        Race {
-            way: Way::Sight,
             threads: 4,
         },
     ),
@@ -126,12 +110,8 @@ fn submit_many<W: Wait>(
 {
     let mut tally = Tally::new();
     for i in 0..count {
-        if way == Way::Sight {
-            ask_and_watch(rt, executor, &mut pass, i as u64, &mut tally);
-        } else {
-            let cancel = way == Way::Submission;
-            ask(rt, executor, &mut pass, i as u64, cancel, &mut tally);
-        }
+        let cancel = way == Way::Submission;
+        ask(rt, executor, &mut pass, i as u64, cancel, &mut tally);
     }
     done.fetch_add(1, Ordering::SeqCst);
     (pass, tally)
@@ -215,7 +195,6 @@ fn one_beside_target<W: Wait + Threads + Sync>(
     executor: &BenchExecutor,
     target: BenchPass,
     pass: BenchPass,
-    way: Way,
     count: u32,
     done: &AtomicU32,
 ) -> (BenchPass, Lane)
@@ -231,7 +210,7 @@ fn one_beside_target<W: Wait + Threads + Sync>(
         move || -> Lane
             requires { IsIdle executor.now.lock pass }
             ensures { IsIdle executor.entry.now.lock result.0 }
-        { submit_many(rt, executor, pass, way, count, done) },
+        { submit_many(rt, executor, pass, Way::RoundTrip, count, done) },
     )
 }
 
@@ -240,7 +219,6 @@ fn four_beside_target<W: Wait + Threads + Sync>(
     executor: &BenchExecutor,
     target: BenchPass,
     passes: Four,
-    way: Way,
     count: u32,
     done: &AtomicU32,
 ) -> (BenchPass, ((Lane, Lane), (Lane, Lane)))
@@ -267,7 +245,7 @@ fn four_beside_target<W: Wait + Threads + Sync>(
                 × IsIdle executor.entry.now.lock result.0.1.0)
                 × (IsIdle executor.entry.now.lock result.1.0.0
                 × IsIdle executor.entry.now.lock result.1.1.0) }
-        { submit_in_four(rt, executor, passes, way, count, done) },
+        { submit_in_four(rt, executor, passes, Way::RoundTrip, count, done) },
     )
 }
 
@@ -468,7 +446,7 @@ fn run_one<W: Wait + Threads + Sync + Clock>(
     way: Way,
     count: u32,
 ) -> Result<Duration>
-    requires { count ≤ MOST }
+    requires { count ≤ 50000 }
 {
     if count < 1 {
         bail!("no requests");
@@ -484,7 +462,7 @@ fn run_one<W: Wait + Threads + Sync + Clock>(
         check_one(rt, executor, target, pass, 2 * count as u64)?;
         return Ok(time);
     }
-    let (target, (pass, tally)) = one_beside_target(rt, &executor, target, pass, way, count, &done);
+    let (target, (pass, tally)) = one_beside_target(rt, &executor, target, pass, count, &done);
     let time = start.elapsed(rt)?;
     ensure!(tally.ended == count, "not all requests ended");
     check_one(rt, executor, target, pass, 4 * count as u64 + 1)?;
@@ -508,7 +486,7 @@ fn run_four<W: Wait + Threads + Sync + Clock>(
     way: Way,
     count: u32,
 ) -> Result<Duration>
-    requires { count ≤ MOST }
+    requires { count ≤ 50000 }
 {
     if count < 1 {
         bail!("no requests");
@@ -535,7 +513,7 @@ fn run_four<W: Wait + Threads + Sync + Clock>(
         );
         return Ok(time);
     }
-    let (target, lanes) = four_beside_target(rt, &executor, target, four_passes, way, count, &done);
+    let (target, lanes) = four_beside_target(rt, &executor, target, four_passes, count, &done);
     let time = start.elapsed(rt)?;
     ensure!(all_done(&lanes, way, count), "not all requests ended");
     let entries = executor.history(rt, target);

@@ -2,7 +2,7 @@
 ghost use Rattle.std.specs.Prelude.{◌≡◌, ◌≤◌, ◌*◌, IfOk, length};
 
 use crate::http::{Done, NOTHING, whole};
-use http_heads::rules::{framing, persists};
+use http_heads::rules::rules_of;
 use http_heads::{Field, Fields, Framing, Head, HeadFill, HeadRead, fill_head, read_head};
 use httparse::Status;
 use httparse::spans::{EMPTY_HEADER_SPAN, HeaderSpan, RequestSpans, Span, parse_request};
@@ -57,9 +57,10 @@ fn filled(alloc: Global, head: &mut Head, text: &[u8]) -> Result<HeadFill, NoMem
     fill_head(alloc, head, text)
 }
 
-// A head without a body, behind which the connection goes on, by the calls that a connection makes.
+// A head without a body, behind which the connection goes on.
 fn is_plain(head: &Head) -> bool {
-    framing(head) == Framing::Empty && persists(head)
+    let rules = rules_of(head);
+    rules.framing == Framing::Empty && rules.persists
 }
 
 fn read_fresh(alloc: Global, text: &[u8]) -> Result<bool, NoMemory> {

@@ -3,7 +3,6 @@ use Rattle.std.specs.Prelude.{◌≡◌, ◌≤◌, ◌<◌, ◌+◌, ◌^◌, �
 use Rattle.std.specs.List.{list_any, AllByRecursion}
 use Rattle.std.specs.List.Sorted.{IsPartitionPoint}
 use Rattle.kj_base.specs.Queue.{IsQueue}
-use Rattle.kj_base.specs.declared.limits.TheConstants.{MAX_SLOTS, MAX_NAMES}
 use Rattle.loop_core.specs.declared.engine.Engine.{Engine}
 use Rattle.loop_core.specs.declared.nodes.Node.{Node}
 use Rattle.loop_core.specs.declared.names.Named.{Named}
@@ -59,8 +58,8 @@ RootsFit nodes next names = AllByRecursion (λ (x : Named). RootFits nodes next 
 
 -- there is room for all that a loop of these limits can hold
 pub record HasRoom (e : Engine) : Type 0 where
-  pub slots : e.limits.slots ≤ MAX_SLOTS
-  pub names : e.limits.names ≤ MAX_NAMES
+  pub slots : e.limits.slots ≤ 4194304
+  pub names : e.limits.names ≤ 1048576
   pub of_events : e.limits.slots ≤ vec_capacity e.order.events
   pub of_nodes : e.limits.slots ≤ vec_capacity e.nodes
   pub of_names : e.limits.names ≤ vec_capacity e.names

@@ -17,7 +17,7 @@ use crate::engine::Engine;
 use crate::fire::turn;
 use crate::order::Order;
 use crate::turned::Turned;
-use kj_base::{Command, Limits, MAX_NAMES, MAX_SLOTS, NoMemory, NodeId, Refused, Steps};
+use kj_base::{Command, Limits, NoMemory, NodeId, Refused, Steps};
 use std::alloc::Global;
 use std::marker::Model;
 
@@ -48,10 +48,10 @@ impl Loop {
     /// An empty loop, with room for all that it can ever hold: later calls take no memory.
     pub fn new(alloc: Global, limits: Limits) -> Result<Loop, NoMemory>
         requires least_slots { 8 ≤ limits.slots }
-        requires most_slots { limits.slots ≤ MAX_SLOTS }
+        requires most_slots { limits.slots ≤ 4194304 }
         requires eights { limits.slots % 8 ≡ 0 }
         requires least_names { 1 ≤ limits.names }
-        requires most_names { limits.names ≤ MAX_NAMES }
+        requires most_names { limits.names ≤ 1048576 }
         ensures { IfOk result (λ made. made ≡ new_world limits) }
     {
         let slots = limits.slots as usize;
