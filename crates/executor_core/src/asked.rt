@@ -12,7 +12,8 @@ use std::alloc::Global;
 use std::cmp::Reverse;
 use std::collections::BinaryHeap;
 
-// Numbers of requests, each entered once, when its end was asked. One that is not to be told any more stays until it comes first.
+// Numbers of requests, each entered once, when its end was asked. One that is not to be told any more stays until it comes
+// first.
 #[derive(Drop)]
 pub(crate) struct Asked {
     pub(crate) heap: BinaryHeap<Reverse<usize>>,
