@@ -3,8 +3,6 @@
 
 mod both;
 mod item;
-#[cfg(test)]
-mod looks;
 mod patient;
 #[cfg(test)]
 mod rows;
