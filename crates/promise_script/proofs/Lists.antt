@@ -7,10 +7,10 @@ both_none : {A B : Type 0} (o : Option A) → both {A = A} {B = B} o None ≡ No
 both_none None = refl
 both_none (Some x) = refl
 
-abbrev consed : {A : Type 0} → Option A → Option (List A) → Option (List A)
+abbrev pub consed : {A : Type 0} → Option A → Option (List A) → Option (List A)
 consed a b = given (λ p. p.0 ∷ p.1) (both a b)
 
-abbrev Consed : {A : Type 0} → Option A → Option (List A) → List A → Type 0
+abbrev pub Consed : {A : Type 0} → Option A → Option (List A) → List A → Type 0
 Consed {A} a b xs = (y : A) × (ys : List A) × (a ≡ Some y) × (b ≡ Some ys) × (xs ≡ y ∷ ys)
 
 pub consed_some : {A : Type 0} (a : Option A) (b : Option (List A)) (xs : List A) → consed a b ≡ Some xs → Consed a b xs

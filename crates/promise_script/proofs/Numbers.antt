@@ -19,10 +19,10 @@ chosen_some true false v n e = absurd (cc (e))
 chosen_some false true v n e = absurd (cc (e))
 chosen_some false false v n e = absurd (cc (e))
 
-lt_test : (m n : ℕ) → m < n → nat_lt m n ≡ true
+pub lt_test : (m n : ℕ) → m < n → nat_lt m n ≡ true
 lt_test m n h = grind (arith, nat_tests)
 
-test_lt : (m n : ℕ) → nat_lt m n ≡ true → m < n
+pub test_lt : (m n : ℕ) → nat_lt m n ≡ true → m < n
 test_lt m n h = grind (arith, nat_tests)
 
 -- the word of a number is read as it
