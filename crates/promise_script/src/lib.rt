@@ -3,10 +3,12 @@
 
 mod commands;
 mod fields;
+mod laws;
 mod lines;
 mod meaning;
 mod parts;
 mod verbs;
 
-pub use lines::{find_meaning, read_line};
+pub use laws::one_line;
+pub use lines::read_line;
 pub use meaning::Meaning;
