@@ -7,6 +7,8 @@ mod laws;
 mod lines;
 mod meaning;
 mod parts;
+#[cfg(test)]
+mod tests;
 mod verbs;
 
 pub use laws::one_line;
