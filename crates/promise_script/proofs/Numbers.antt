@@ -39,7 +39,7 @@ read_is bound n w fits below text =
 pub read_none : (bound : ℕ) (w : List ℕ) → ((n : ℕ) → n < bound → w ≡ decimal n → ⊥) → number_read bound w ≡ None
 read_none bound w none =
     chosen_none (bytes_eq w (decimal (digits_value 10 w))) (nat_lt (digits_value 10 w) bound) (digits_value 10 w)
-        (λ same small. none (digits_value 10 w) (test_lt (digits_value 10 w) bound small) ((bytes_eq-Decides w (decimal (digits_value 10 w))).0 same))
+    (λ same small. none (digits_value 10 w) (test_lt (digits_value 10 w) bound small) ((bytes_eq-Decides w (decimal (digits_value 10 w))).0 same))
 
 -- what is read is a number with this word
 pub read_sound : (bound n : ℕ) (w : List ℕ) → number_read bound w ≡ Some n → (n < bound) × (w ≡ decimal n)

@@ -65,7 +65,7 @@ kind_read w =
     cond (bytes_eq w (codes "failed")) (Some Failed) (
     cond (bytes_eq w (codes "overloaded")) (Some Overloaded) (
     cond (bytes_eq w (codes "disconnected")) (Some Disconnected) (
-    cond (bytes_eq w (codes "unimplemented")) (Some Unimplemented) ( None))))
+    cond (bytes_eq w (codes "unimplemented")) (Some Unimplemented) (None))))
 
 -- at most so many words, each read
 abbrev pub few_read : {A : Type 0} → ℕ → (List ℕ → Option A) → List (List ℕ) → Option (List A)
@@ -116,7 +116,7 @@ maker_read w =
     cond (bytes_eq w (codes "fail")) (Some FailWord) (
     cond (bytes_eq w (codes "later")) (Some LaterWord) (
     cond (bytes_eq w (codes "last")) (Some LastWord) (
-    cond (bytes_eq w (codes "pair")) (Some PairWord) ( None)))))
+    cond (bytes_eq w (codes "pair")) (Some PairWord) (None)))))
 
 abbrev pub combiner_read : List ℕ → Option Combiner
 combiner_read w =
@@ -127,14 +127,14 @@ combiner_read w =
     cond (bytes_eq w (codes "branch")) (Some BranchWord) (
     cond (bytes_eq w (codes "race")) (Some RaceWord) (
     cond (bytes_eq w (codes "all")) (Some AllWord) (
-    cond (bytes_eq w (codes "fast")) (Some FastWord) ( None))))))))
+    cond (bytes_eq w (codes "fast")) (Some FastWord) (None))))))))
 
 abbrev pub user_read : List ℕ → Option User
 user_read w =
     cond (bytes_eq w (codes "fulfil")) (Some FulfilWord) (
     cond (bytes_eq w (codes "reject")) (Some RejectWord) (
     cond (bytes_eq w (codes "dropcell")) (Some DropCellWord) (
-    cond (bytes_eq w (codes "detach")) (Some DetachWord) ( None))))
+    cond (bytes_eq w (codes "detach")) (Some DetachWord) (None))))
 
 abbrev pub other_read : List ℕ → Option Verb
 other_read w =
@@ -145,7 +145,7 @@ other_read w =
     cond (bytes_eq w (codes "value")) (Some ValueWord) (
     cond (bytes_eq w (codes "throw")) (Some ThrowWord) (
     cond (bytes_eq w (codes "promise")) (Some PromiseWord) (
-    cond (bytes_eq w (codes "input")) (Some InputWord) ( None))))))))
+    cond (bytes_eq w (codes "input")) (Some InputWord) (None))))))))
 
 abbrev pub verb_read : List ℕ → Option Verb
 verb_read w = or_else (given Make (maker_read w)) (or_else (given Combine (combiner_read w)) (or_else (given Use (user_read w)) (other_read w)))

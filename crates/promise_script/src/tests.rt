@@ -93,10 +93,17 @@ fn reads_nothing_else(rt: HostRuntime) -> Result<(), Fail> {
 #[test]
 fn tells_what_lines_mean(rt: HostRuntime) -> Result<(), Fail> {
     let alloc = rt.alloc();
-    let limits = Limits { slots: 16, names: 2 };
-    assert!(rt; matches!(read_line(alloc, b"limits 16 2")?, Some(Meaning::Limits(found)) if found == limits));
+    let limits = Limits {
+        slots: 16,
+        names: 2,
+    };
+    assert!(rt;
+        matches!(read_line(alloc, b"limits 16 2")?, Some(Meaning::Limits(found)) if found == limits)
+    );
     let step = StepId(5);
-    assert!(rt; matches!(read_line(alloc, b"step 5")?, Some(Meaning::Step(found)) if found == step));
+    assert!(rt;
+        matches!(read_line(alloc, b"step 5")?, Some(Meaning::Step(found)) if found == step)
+    );
     assert!(rt; matches!(read_line(alloc, b"run 9")?, Some(Meaning::Run(9))));
     Ok(())
 }
@@ -104,12 +111,16 @@ fn tells_what_lines_mean(rt: HostRuntime) -> Result<(), Fail> {
 #[test]
 fn tells_the_parts_of_commands(rt: HostRuntime) -> Result<(), Fail> {
     let found = match read_line(rt.alloc(), b"then 3 4 5 -")? {
-        Some(Meaning::Do(Command::Then {
-            name,
-            source,
-            value,
-            error,
-        })) => name == Name(3) && source == Name(4) && value == Some(StepId(5)) && error.is_none(),
+        Some(
+            Meaning::Do(
+                Command::Then {
+                    name,
+                    source,
+                    value,
+                    error,
+                },
+            ),
+        ) => name == Name(3) && source == Name(4) && value == Some(StepId(5)) && error.is_none(),
         _ => false,
     };
     assert!(rt; found);
