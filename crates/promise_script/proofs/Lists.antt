@@ -1,5 +1,5 @@
 -- Lists of words, each read.
-use Rattle.std.proofs.Common.{◌≡◌, ℕ, zero, suc, ◌<◌, ◌≤◌, ◌+◌, List, [], ◌∷◌, ◌++◌, Option, None, Some, Bool, true, false, cond, nat_lt, Bor, refl, sym, ap, ◌∙◌, arith, length, take, get_or, map}
+use Rattle.std.proofs.Common.{◌≡◌, ℕ, zero, suc, ◌<◌, ◌+◌, List, [], ◌∷◌, ◌++◌, Option, None, Some, Bool, true, false, cond, nat_lt, Bor, refl, sym, ap, ◌∙◌, arith, length, take, get_or, map}
 use Rattle.std.proofs.lemmas.List.{take_more, length-map}
 use Rattle.promise_script.specs.Decode.{given, both, all_read, few_read}
 

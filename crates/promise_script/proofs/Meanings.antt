@@ -1,7 +1,7 @@
 -- What a line is read as, is what it means.
-use Rattle.std.proofs.Common.{◌≡◌, ◌⊎◌, ℕ, zero, suc, ◌<◌, ◌≤◌, ◌+◌, ◌^◌, ◌%◌, ◌==◌, ◌&&◌, lit<, lit≤, List, [], ◌∷◌, Option, None, Some, Bool, true, false, cond, refl, sym, ap, ◌∙◌, subst, arith, length, map, nat_lt, nat_le, inl, inr}
+use Rattle.std.proofs.Common.{◌≡◌, ◌⊎◌, ℕ, ◌<◌, ◌≤◌, ◌^◌, ◌%◌, ◌==◌, ◌&&◌, lit<, lit≤, List, [], ◌∷◌, Option, None, Some, Bool, true, false, cond, refl, sym, ap, ◌∙◌, subst, arith, length, map, nat_lt, nat_le, inl, inr}
 use Rattle.std.specs.Prelude.{codes, decimal}
-use Rattle.std.specs.List.{onto_first, slice_split, count_by}
+use Rattle.std.specs.List.{onto_first, count_by}
 use Rattle.std.proofs.lemmas.Bool.{cases_Bool}
 use Rattle.std.proofs.lemmas.Bool.Decides.{nat_tests}
 use Rattle.std.proofs.lemmas.List.{length-map}
@@ -10,7 +10,6 @@ use Rattle.kj_base.specs.declared.numbers.StepId.{StepId}
 use Rattle.kj_base.specs.declared.numbers.Name.{Name}
 use Rattle.kj_base.specs.declared.numbers.Limits.{Limits}
 use Rattle.kj_base.specs.declared.outcomes.Exception.{Exception}
-use Rattle.kj_base.specs.declared.actions.Ending.{Ending}
 use Rattle.kj_base.specs.declared.actions.Ending.TheVariants.{Value, Throw, Promise, Input}
 use Rattle.promise_commands.specs.declared.command.Command.{Command}
 use Rattle.promise_commands.specs.declared.command.Command.TheVariants.{Now, Broken, Later, Last, Pair, Then, Chain, Eager, Fork, Branch, Race, All, Fast, Fulfil, Reject, DropCell, Detach}
@@ -24,8 +23,8 @@ use Rattle.promise_script.specs.declared.verbs.User.{User}
 use Rattle.promise_script.specs.declared.verbs.User.TheVariants.{Fulfil as FulfilWord, Reject as RejectWord, DropCell as DropCellWord, Detach as DetachWord}
 use Rattle.promise_script.specs.declared.verbs.Verb.{Verb}
 use Rattle.promise_script.specs.declared.verbs.Verb.TheVariants.{Make, Combine, Use, Limits as LimitsWord, Turn as TurnWord, Run as RunWord, Step as StepWord, Value as ValueWord, Throw as ThrowWord, Promise as PromiseWord, Input as InputWord}
-use Rattle.promise_script.specs.ScriptText.{name_word, step_word, exception_words, command_words, ending_words, meaning_words, NameFits, StepFits, WordsFit, NamesFit, CommandFits, EndingFits, LimitsFit, MeaningFits, words_of, is_remark, Spells, Means}
-use Rattle.promise_script.specs.Decode.{given, both, or_else, and_then, number_read, to_step, name_read, words_read, names_read, exception_read, one_name, two_names, two_steps, name_and, maker_read, combiner_read, user_read, other_read, verb_read, made_by, combined_by, used_by, limits_fit, limits_of, limits_read, one_number, turns_read, bare, meaning_read, words_meaning, text_read}
+use Rattle.promise_script.specs.ScriptText.{name_word, exception_words, command_words, meaning_words, NameFits, WordsFit, NamesFit, CommandFits, LimitsFit, MeaningFits, words_of, is_remark, Spells, Means}
+use Rattle.promise_script.specs.Decode.{given, both, or_else, and_then, number_read, to_step, words_read, names_read, exception_read, one_name, two_names, two_steps, name_and, maker_read, combiner_read, user_read, other_read, verb_read, made_by, combined_by, used_by, limits_fit, limits_of, limits_read, one_number, turns_read, bare, meaning_read, words_meaning, text_read}
 use Rattle.promise_script.proofs.Numbers.{read_is, read_sound}
 use Rattle.promise_script.proofs.Shapes.{Sound, Complete, given_some, both_some, both_are, first_sound, words_sound, words_complete, names_sound, names_complete, one_name_sound, name_complete, TwoNamesFit, two_names_words, two_names_sound, two_names_complete, TwoStepsFit, two_steps_words, two_steps_sound, two_steps_complete, CodeFits, exception_sound, exception_complete, NameAndFits, name_and_words, name_and_sound, name_and_complete}
 

@@ -1,5 +1,5 @@
 -- Readers of words: each reads the words of its values, and nothing else.
-use Rattle.std.proofs.Common.{◌≡◌, ◌⊎◌, ℕ, zero, suc, ◌<◌, ◌≤◌, ◌^◌, ◌%◌, ◌==◌, ◌&&◌, List, [], ◌∷◌, Option, None, Some, Bool, true, false, cond, refl, sym, ap, ◌∙◌, subst, arith, length, map, nat_lt, inl, inr}
+use Rattle.std.proofs.Common.{◌≡◌, ◌⊎◌, ℕ, ◌<◌, ◌≤◌, ◌^◌, List, [], ◌∷◌, Option, None, Some, Bool, true, false, cond, refl, sym, ap, ◌∙◌, subst, arith, length, map, nat_lt, inl, inr}
 use Rattle.std.specs.Prelude.{codes, decimal, bytes_eq}
 use Rattle.std.specs.List.{All as EachOf}
 use Rattle.std.specs.Str.Parse.{AllDigits}
@@ -18,7 +18,7 @@ use Rattle.kj_base.specs.declared.outcomes.Kind.TheVariants.{Failed, Overloaded,
 use Rattle.kj_model.specs.Text.{kind_text}
 use Rattle.promise_script.specs.ScriptText.{name_word, step_word, exception_words, NameFits, StepFits, WordsFit, NamesFit}
 use Rattle.promise_script.specs.Decode.{given, both, all_read, few_read, number_read, to_name, to_step, to_exception, name_read, step_read, kind_read, words_read, names_read, exception_read, one_name, two_names, two_steps, name_and}
-use Rattle.promise_script.proofs.Numbers.{read_is, read_sound, lt_test, test_lt}
+use Rattle.promise_script.proofs.Numbers.{read_is, read_sound}
 use Rattle.promise_script.proofs.Lists.{consed, consed_some}
 
 -- what is read fits, and its words are those

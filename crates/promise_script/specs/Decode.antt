@@ -1,6 +1,6 @@
 -- What a reader finds in the words of a line. `ScriptText` says what the lines are; these functions are how the code
 -- finds it, and the proofs tie the two.
-use Rattle.std.specs.Prelude.{◌≡◌, ℕ, ◌<◌, ◌^◌, ◌&&◌, ◌%◌, ◌==◌, List, [], ◌∷◌, Option, None, Some, Bool, true, false, cond, codes, decimal, bytes_eq, length, nat_lt, nat_le}
+use Rattle.std.specs.Prelude.{ℕ, ◌^◌, ◌&&◌, ◌%◌, ◌==◌, List, [], ◌∷◌, Option, None, Some, Bool, cond, codes, decimal, bytes_eq, length, nat_lt, nat_le}
 use Rattle.std.specs.Str.Parse.{digits_value}
 use Rattle.kj_base.specs.declared.numbers.StepId.{StepId}
 use Rattle.kj_base.specs.declared.numbers.Name.{Name}

@@ -1,5 +1,5 @@
 -- The text of scripts: what each line means, and which lines are a script.
-use Rattle.std.specs.Prelude.{◌≡◌, ℕ, ◌<◌, ◌≤◌, ◌^◌, ◌==◌, ◌%◌, ◌++◌, List, [], ◌∷◌, Option, None, Some, Bool, true, codes, decimal, length, map}
+use Rattle.std.specs.Prelude.{◌≡◌, ℕ, ◌<◌, ◌≤◌, ◌^◌, ◌==◌, ◌%◌, List, [], ◌∷◌, Option, None, Some, Bool, true, codes, decimal, length, map}
 use Rattle.std.specs.List.{slice_split, All as EachOf}
 use Rattle.kj_base.specs.declared.numbers.StepId.{StepId}
 use Rattle.kj_base.specs.declared.numbers.Name.{Name}

@@ -1,7 +1,7 @@
 //! What a line means, from its octets.
 ghost use Rattle.std.specs.Prelude.{◌≡◌, ◌==◌, IfOk, IfSome, map, None};
 ghost use Rattle.promise_script.specs.declared.meaning.Meaning.{Meaning};
-ghost use Rattle.promise_script.specs.ScriptText.{Means, words_of, is_remark};
+ghost use Rattle.promise_script.specs.ScriptText.{Means, words_of};
 ghost use Rattle.std.specs.List.{count_by};
 ghost use Rattle.promise_script.specs.Decode.{bare, limits_fit, limits_read, one_number, turns_read, meaning_read, words_meaning, text_read};
 

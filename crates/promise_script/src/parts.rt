@@ -1,5 +1,5 @@
 //! What stands behind the first word of a line.
-ghost use Rattle.std.specs.Prelude.{◌≡◌, IfOk, map};
+ghost use Rattle.std.specs.Prelude.{◌≡◌, map};
 ghost use Rattle.promise_script.specs.Decode.{one_name, two_names, two_steps, name_and, exception_read, words_read, names_read};
 
 use crate::fields::{read_kind, read_name, read_names, read_number, read_step, read_words};

@@ -1,5 +1,5 @@
 -- One part more, or the part that is read as none.
-use Rattle.std.proofs.Common.{rules, arith, ◌≡◌, ◌^◌, ℕ, ◌<◌, ◌+◌, List, [], ◌∷◌, ◌++◌, None, Some, Bor, get_or, length, sym, ap, ◌∙◌}
+use Rattle.std.proofs.Common.{rules, arith, ◌≡◌, ℕ, ◌<◌, ◌+◌, List, [], ◌∷◌, ◌++◌, None, Some, Bor, get_or, length, sym, ap, ◌∙◌}
 use Rattle.std.proofs.lemmas.List.{length-append}
 use Rattle.promise_script.specs.Decode.{name_read}
 use Rattle.promise_script.proofs.Lists.{now_of, few_none, part_stop, part_more}

@@ -1,5 +1,5 @@
 -- What the parts so far are read as.
-use Rattle.std.proofs.Common.{◌≡◌, ◌^◌, ◌≤◌, Some, take, length}
+use Rattle.std.proofs.Common.{◌≡◌, ◌≤◌, Some, take, length}
 use Rattle.promise_script.specs.Decode.{all_read, name_read}
 use Rattle.promise_script.proofs.Lists.{now_of}
 use Rattle.promise_script.proofs.fields.read_names.Given as goal

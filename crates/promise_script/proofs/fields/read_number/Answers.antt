@@ -1,5 +1,5 @@
 -- A number of 2 ^ 32 or more is none of those below.
-use Rattle.std.proofs.Common.{rules, arith, sym, ◌∙◌, ◌^◌, ◌<◌}
+use Rattle.std.proofs.Common.{rules, arith, sym, ◌∙◌, ◌^◌}
 use Rattle.kj_base.proofs.Digits.{decimal_same}
 use Rattle.promise_script.proofs.Numbers.{read_is, read_none}
 use Rattle.promise_script.proofs.fields.read_number.Goals as goal
