@@ -1,4 +1,4 @@
--- The text of scripts: what each line means, and which lines are a script.
+-- The text of scripts: what each line means.
 use Rattle.std.specs.Prelude.{◌≡◌, ℕ, ◌<◌, ◌≤◌, ◌^◌, ◌==◌, ◌%◌, List, [], ◌∷◌, Option, None, Some, Bool, true, codes, decimal, length, map}
 use Rattle.std.specs.List.{slice_split, All as EachOf}
 use Rattle.kj_base.specs.declared.numbers.StepId.{StepId}
