@@ -38,6 +38,7 @@ fn pass_step<L: Land, S: Steps>(
     ensures root { GivesRoot (L.is_taken land.new) (L.next land.new) result }
     ensures plain { OnlyRises (L.is_plain land.old) (L.is_plain land.new) }
     ensures slots { L.slots land.new ≡ L.slots land.old }
+    ensures over { L.over land.new ≡ L.over land.old }
 {
     match step {
         Some(step) => land.step(under_chain, node, step, input, steps),
@@ -59,6 +60,7 @@ pub(crate) fn close_then<L: Land, S: Steps>(
     ensures root { GivesRoot (L.is_taken land.new) (L.next land.new) result }
     ensures plain { OnlyRises (L.is_plain land.old) (L.is_plain land.new) }
     ensures slots { L.slots land.new ≡ L.slots land.old }
+    ensures over { L.over land.new ≡ L.over land.old }
 {
     land.free_part(then.tree, steps);
     land.put_bare(
@@ -87,6 +89,7 @@ pub(crate) fn close_side<L: Land, S: Steps>(
     ensures lacks { S.lacks steps.new ≡ S.lacks steps.old }
     ensures plain { OnlyRises (L.is_plain land.old) (L.is_plain land.new) }
     ensures slots { L.slots land.new ≡ L.slots land.old }
+    ensures over { L.over land.new ≡ L.over land.old }
 {
     land.free_part(tree, steps);
     land.put_bare(side, Form::Side { stage: Stage::Gone });

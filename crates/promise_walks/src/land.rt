@@ -41,6 +41,9 @@ pub trait Land {
     /// Whether a number was given to a node that is no hub and no branch, or that went.
     ghost is_plain: { Self → ℕ → Bool };
 
+    /// The trees that are left over, which no call changes.
+    ghost over: { Self → List ℕ };
+
     /// Whether rows fit, by the number of slots and the spots of the live nodes.
     ghost rule: { ℕ → List Spot → List RowSeen → Bool };
 
@@ -59,14 +62,16 @@ pub trait Land {
         requires bare { IsBare form }
         ensures stands { (w : World) → stands self.old w → stands self.new (put node.number.0 (shown [] form) w) }
         ensures plain { OnlyRises (is_plain self.old) (is_plain self.new) }
-        ensures slots { slots self.new ≡ slots self.old };
+        ensures slots { slots self.new ≡ slots self.old }
+        ensures over { over self.new ≡ over self.old };
 
     /// A tree goes while an event fires.
     fn free_part<S: Steps>(&mut self, tree: Link, steps: &mut S)
         ensures does { Does (stands self.old) (stands self.new) (freed tree.number.0) (λ s. s) (S.told steps.old) (S.told steps.new) }
         ensures lacks { S.lacks steps.new ≡ S.lacks steps.old }
         ensures plain { OnlyRises (is_plain self.old) (is_plain self.new) }
-        ensures slots { slots self.new ≡ slots self.old };
+        ensures slots { slots self.new ≡ slots self.old }
+        ensures over { over self.new ≡ over self.old };
 
     /// A step runs under a node, which may be below a Chain: its commands are carried out, and then its ending.
     fn step<S: Steps>(
@@ -81,7 +86,8 @@ pub trait Land {
         ensures lacks { HasLacked (is_err result) (S.lacks steps.old) (S.lacks steps.new) }
         ensures root { GivesRoot (is_taken self.new) (next self.new) result }
         ensures plain { OnlyRises (is_plain self.old) (is_plain self.new) }
-        ensures slots { slots self.new ≡ slots self.old };
+        ensures slots { slots self.new ≡ slots self.old }
+        ensures over { over self.new ≡ over self.old };
 
     /// The slots of each world that it stands for.
     ghost slots_are: { (land : Self) (w : World) → stands land w → w.limits.slots ≡ slots land };

@@ -53,6 +53,7 @@ pub fn evaluate_link<L: Land, S: Steps>(
     ensures root { GivesRoot (L.is_taken land.new) (L.next land.new) result }
     ensures plain { OnlyRises (L.is_plain land.old) (L.is_plain land.new) }
     ensures slots { L.slots land.new ≡ L.slots land.old }
+    ensures over { L.over land.new ≡ L.over land.old }
     ensures room { vec_capacity stack.old ≤ vec_capacity stack.new }
 {
     let Some(then) = continuation(land, link) else {
