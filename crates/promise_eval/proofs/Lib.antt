@@ -1,3 +1,1 @@
-pub mod Acted
-pub mod Promised
 pub mod Ran

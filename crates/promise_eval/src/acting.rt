@@ -98,15 +98,7 @@ pub fn run_step<A: Applies, N: Nodes, M: Names, S: Steps>(
     ensures room { vec_capacity search.old ≤ vec_capacity search.new }
 {
     match steps.run(node.number, step, &input) {
-        Ok(action) => Ok(act(
-            applier,
-            nodes,
-            names,
-            search,
-            under_chain,
-            action,
-            input,
-        )),
+        Ok(action) => Ok(act(applier, nodes, names, search, under_chain, action, input)),
         Err(none) => {
             names.stop();
             Err(none)

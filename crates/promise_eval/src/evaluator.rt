@@ -57,11 +57,7 @@ impl<N: Nodes + Drop, M: Names + Drop, A: Applies + Drop> Evaluator<N, M, A> {
 
     /// What the Then of a Chain gives, with the steps that run for it: an outcome, or the tree of a promise, which left
     /// its name and which nothing owns.
-    pub fn evaluate_link<S: Steps>(
-        &mut self,
-        link: Link,
-        steps: &mut S,
-    ) -> Result<Given, NoMemory>
+    pub fn evaluate_link<S: Steps>(&mut self, link: Link, steps: &mut S) -> Result<Given, NoMemory>
         ensures gives { Gives (Both (N.stands self.old.nodes) (M.stands self.old.names)) (Both (N.stands self.new.nodes) (M.stands self.new.names)) N.rule (λ setting s. value_link setting link.number.0 s) gave_given (S.told steps.old) (S.told steps.new) result }
         ensures lacks { HasLacked (is_err result) (S.lacks steps.old) (S.lacks steps.new) }
         ensures root { GivesRoot (N.is_taken self.new.nodes) (N.next self.new.nodes) result }

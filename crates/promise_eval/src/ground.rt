@@ -31,12 +31,7 @@ impl<N: Nodes + Drop, M: Names + Drop, A: Applies + Drop> Model for Ground<N, M,
 
 impl<N: Nodes + Drop, M: Names + Drop, A: Applies + Drop> Ground<N, M, A> {
     /// Over names of which none promises a tree yet. This takes the memory of the walks.
-    pub fn new(
-        alloc: Global,
-        nodes: N,
-        names: M,
-        applier: A,
-    ) -> Result<Ground<N, M, A>, NoMemory>
+    pub fn new(alloc: Global, nodes: N, names: M, applier: A) -> Result<Ground<N, M, A>, NoMemory>
         requires no_promises { (name : ℕ) → M.roots names name ≡ None }
         requires few { M.count names ≤ M.limit names }
         ensures nodes { IfOk result (λ g. g.nodes ≡ nodes) }
