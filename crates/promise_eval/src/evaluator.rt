@@ -19,8 +19,8 @@ use std::marker::Model;
 /// Evaluates the trees of a loop, by a stack of its own.
 #[derive(Drop)]
 pub struct Evaluator<N: Nodes + Drop, M: Names + Drop, A: Applies + Drop> {
-    pub(crate) ground: Ground<N, M, A>,
-    pub(crate) pending: Vec<Pending>,
+    pub ground: Ground<N, M, A>,
+    pending: Vec<Pending>,
 }
 
 impl<N: Nodes + Drop, M: Names + Drop, A: Applies + Drop> Model for Evaluator<N, M, A> {
