@@ -56,7 +56,7 @@ fn act<A: Applies, N: Nodes, M: Names>(
     requires few { M.count names.old ≤ M.limit names.old }
     requires room { N.slots nodes.old + 1 ≤ vec_capacity search.old }
     ensures acted { (answer : Answer) (s : State) → Both (N.stands nodes.old) (M.stands names.old) s.world → IsDone (Both (N.stands nodes.new) (M.stands names.new)) s.past (given_of result) (acted (setting_of N.rule answer) (action_of action) under_chain input s) }
-    ensures root { GivesRoot (N.is_taken nodes.new) (N.next nodes.new) (Ok result) }
+    ensures root { GivesRoot (M.roots names.new) (N.is_taken nodes.new) (N.next nodes.new) (Ok result) }
     ensures free { AreFree (M.roots names.new) (N.is_taken nodes.new) (N.next nodes.new) }
     ensures few { M.count names.new ≤ M.limit names.new }
     ensures slots { N.slots nodes.new ≡ N.slots nodes.old }
@@ -89,7 +89,7 @@ pub fn run_step<A: Applies, N: Nodes, M: Names, S: Steps>(
     requires room { N.slots nodes.old + 1 ≤ vec_capacity search.old }
     ensures gives { Gives (Both (N.stands nodes.old) (M.stands names.old)) (Both (N.stands nodes.new) (M.stands names.new)) N.rule (λ setting s. run_step setting under_chain node.number.0 step.0 input s) gave_given (S.told steps.old) (S.told steps.new) result }
     ensures lacks { HasLacked (is_err result) (S.lacks steps.old) (S.lacks steps.new) }
-    ensures root { GivesRoot (N.is_taken nodes.new) (N.next nodes.new) result }
+    ensures root { GivesRoot (M.roots names.new) (N.is_taken nodes.new) (N.next nodes.new) result }
     ensures free { AreFree (M.roots names.new) (N.is_taken nodes.new) (N.next nodes.new) }
     ensures few { M.count names.new ≤ M.limit names.new }
     ensures slots { N.slots nodes.new ≡ N.slots nodes.old }

@@ -48,6 +48,7 @@ fn holds_firing<N: Nodes>(nodes: &N, search: &mut Vec<Parts>, root: Link) -> boo
 }
 
 // The promise of a name leaves it, but for one that isn't there or whose tree holds the node whose event fires.
+#[tactic(auto, using(crate::proofs::Loose::unnamed_then))]
 fn take_promise<N: Nodes, M: Names>(
     nodes: &N,
     names: &mut M,
@@ -57,7 +58,7 @@ fn take_promise<N: Nodes, M: Names>(
     requires free { AreFree (M.roots names.old) (N.is_taken nodes.now) (N.next nodes.now) }
     requires room { N.slots nodes.now + 1 ≤ vec_capacity search.old }
     ensures taken { (s : State) → Both (N.stands nodes.now) (M.stands names.old) s.world → IsDone (Both (N.stands nodes.now) (M.stands names.new)) s.past (given_of result) (promise_taken name.0 (held_at name.0 s.world.names) s) }
-    ensures root { GivesRoot (N.is_taken nodes.now) (N.next nodes.now) (Ok result) }
+    ensures root { GivesRoot (M.roots names.new) (N.is_taken nodes.now) (N.next nodes.now) (Ok result) }
     ensures free { AreFree (M.roots names.new) (N.is_taken nodes.now) (N.next nodes.now) }
     ensures few { M.count names.new ≤ M.count names.old }
     ensures limit { M.limit names.new ≡ M.limit names.old }
@@ -85,7 +86,7 @@ fn end_promise<N: Nodes, M: Names>(
     requires free { AreFree (M.roots names.old) (N.is_taken nodes.now) (N.next nodes.now) }
     requires room { N.slots nodes.now + 1 ≤ vec_capacity search.old }
     ensures ended { (s : State) → Both (N.stands nodes.now) (M.stands names.old) s.world → IsDone (Both (N.stands nodes.now) (M.stands names.new)) s.past (given_of result) (promise_ended under_chain name.0 s) }
-    ensures root { GivesRoot (N.is_taken nodes.now) (N.next nodes.now) (Ok result) }
+    ensures root { GivesRoot (M.roots names.new) (N.is_taken nodes.now) (N.next nodes.now) (Ok result) }
     ensures free { AreFree (M.roots names.new) (N.is_taken nodes.now) (N.next nodes.now) }
     ensures few { M.count names.new ≤ M.count names.old }
     ensures limit { M.limit names.new ≡ M.limit names.old }
@@ -110,7 +111,7 @@ pub(crate) fn end<N: Nodes, M: Names>(
     requires free { AreFree (M.roots names.old) (N.is_taken nodes.now) (N.next nodes.now) }
     requires room { N.slots nodes.now + 1 ≤ vec_capacity search.old }
     ensures ended { (s : State) → Both (N.stands nodes.now) (M.stands names.old) s.world → IsDone (Both (N.stands nodes.now) (M.stands names.new)) s.past (given_of result) (ended ending under_chain input s) }
-    ensures root { GivesRoot (N.is_taken nodes.now) (N.next nodes.now) (Ok result) }
+    ensures root { GivesRoot (M.roots names.new) (N.is_taken nodes.now) (N.next nodes.now) (Ok result) }
     ensures free { AreFree (M.roots names.new) (N.is_taken nodes.now) (N.next nodes.now) }
     ensures few { M.count names.new ≤ M.count names.old }
     ensures limit { M.limit names.new ≡ M.limit names.old }

@@ -60,7 +60,7 @@ impl<N: Nodes + Drop, M: Names + Drop, A: Applies + Drop> Evaluator<N, M, A> {
     pub fn evaluate_link<S: Steps>(&mut self, link: Link, steps: &mut S) -> Result<Given, NoMemory>
         ensures gives { Gives (Both (N.stands self.old.nodes) (M.stands self.old.names)) (Both (N.stands self.new.nodes) (M.stands self.new.names)) N.rule (λ setting s. value_link setting link.number.0 s) gave_given (S.told steps.old) (S.told steps.new) result }
         ensures lacks { HasLacked (is_err result) (S.lacks steps.old) (S.lacks steps.new) }
-        ensures root { GivesRoot (N.is_taken self.new.nodes) (N.next self.new.nodes) result }
+        ensures root { GivesRoot (M.roots self.new.names) (N.is_taken self.new.nodes) (N.next self.new.nodes) result }
         ensures plain { OnlyRises (N.is_plain self.old.nodes) (N.is_plain self.new.nodes) }
         ensures slots { N.slots self.new.nodes ≡ N.slots self.old.nodes }
         ensures over { M.over self.new.names ≡ M.over self.old.names }

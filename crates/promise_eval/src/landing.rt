@@ -19,6 +19,8 @@ impl<N: Nodes + Drop, M: Names + Drop, A: Applies + Drop> Land for Ground<N, M, 
 
     ghost is_taken = { λ g. N.is_taken g.nodes };
 
+    ghost roots = { λ g. M.roots g.names };
+
     ghost is_plain = { λ g. N.is_plain g.nodes };
 
     ghost over = { λ g. M.over g.names };

@@ -1,5 +1,5 @@
 //! What evaluations stand on.
-ghost use Rattle.std.specs.Prelude.{◌≡◌, ℕ, List, [], Bool, true, option_copied, is_err};
+ghost use Rattle.std.specs.Prelude.{◌≡◌, ℕ, List, Option, [], Bool, true, option_copied, is_err};
 ghost use Rattle.kj_base.specs.Counts.{HasLacked};
 ghost use Rattle.kj_base.specs.Places.{Spot, Row as RowSeen};
 ghost use Rattle.kj_model.specs.World.{World};
@@ -37,6 +37,9 @@ pub trait Land {
 
     /// Whether a node is live and was made the tree of another one.
     ghost is_taken: { Self → ℕ → Bool };
+
+    /// The root that each name promises.
+    ghost roots: { Self → ℕ → Option ℕ };
 
     /// Whether a number was given to a node that is no hub and no branch, or that went.
     ghost is_plain: { Self → ℕ → Bool };
@@ -84,7 +87,7 @@ pub trait Land {
     ) -> Result<Given, NoMemory>
         ensures gives { Gives (stands self.old) (stands self.new) rule (λ setting s. run_step setting under_chain node.number.0 step.0 input s) gave_given (S.told steps.old) (S.told steps.new) result }
         ensures lacks { HasLacked (is_err result) (S.lacks steps.old) (S.lacks steps.new) }
-        ensures root { GivesRoot (is_taken self.new) (next self.new) result }
+        ensures root { GivesRoot (roots self.new) (is_taken self.new) (next self.new) result }
         ensures plain { OnlyRises (is_plain self.old) (is_plain self.new) }
         ensures slots { slots self.new ≡ slots self.old }
         ensures over { over self.new ≡ over self.old };
