@@ -79,15 +79,16 @@ given_of (TookCase root) = Took root.number.0
 abbrev pub gave_given : GivenCase → Setting → State → Valued Given
 gave_given given = gave (given_of given)
 
--- a root that nothing owns
-pub record IsRoot (is_taken : ℕ → Bool) (next n : ℕ) : Type 0 where
+-- a root that was built, that nothing owns, and that no name promises
+pub record IsRoot (roots : ℕ → Option ℕ) (is_taken : ℕ → Bool) (next n : ℕ) : Type 0 where
   pub untaken : is_taken n ≡ false
   pub built : n < next
+  pub unnamed : (name : ℕ) → roots name ≡ Some n → ⊥
 
 -- a tree that was taken is such a root
-abbrev pub GivesRoot : (ℕ → Bool) → ℕ → Result GivenCase NoMemory → Type 0
-GivesRoot is_taken next (Ok (TookCase root)) = IsRoot is_taken next root.number.0
-GivesRoot is_taken next other = Unit {0}
+abbrev pub GivesRoot : (ℕ → Option ℕ) → (ℕ → Bool) → ℕ → Result GivenCase NoMemory → Type 0
+GivesRoot roots is_taken next (Ok (TookCase root)) = IsRoot roots is_taken next root.number.0
+GivesRoot roots is_taken next other = Unit {0}
 
 -- a form that owns nothing, and is no hub and no branch
 pub record IsBare (form : FormCase) : Type 0 where

@@ -35,9 +35,10 @@ fn pass_step<L: Land, S: Steps>(
 ) -> Result<Given, NoMemory>
     ensures gives { Gives (L.stands land.old) (L.stands land.new) L.rule (λ setting s. step_passed setting under_chain node.number.0 (step_of step) input s) gave_given (S.told steps.old) (S.told steps.new) result }
     ensures lacks { HasLacked (is_err result) (S.lacks steps.old) (S.lacks steps.new) }
-    ensures root { GivesRoot (L.is_taken land.new) (L.next land.new) result }
+    ensures root { GivesRoot (L.roots land.new) (L.is_taken land.new) (L.next land.new) result }
     ensures plain { OnlyRises (L.is_plain land.old) (L.is_plain land.new) }
     ensures slots { L.slots land.new ≡ L.slots land.old }
+    ensures over { L.over land.new ≡ L.over land.old }
 {
     match step {
         Some(step) => land.step(under_chain, node, step, input, steps),
@@ -56,9 +57,10 @@ pub(crate) fn close_then<L: Land, S: Steps>(
     requires plain { L.is_plain land.old then.node.number.0 ≡ true }
     ensures gives { Gives (L.stands land.old) (L.stands land.new) L.rule (λ setting s. then_valued setting under_chain then.node.number.0 (step_of then.value) (step_of then.error) then.tree.number.0 (Some outcome) s) gave_given (S.told steps.old) (S.told steps.new) result }
     ensures lacks { HasLacked (is_err result) (S.lacks steps.old) (S.lacks steps.new) }
-    ensures root { GivesRoot (L.is_taken land.new) (L.next land.new) result }
+    ensures root { GivesRoot (L.roots land.new) (L.is_taken land.new) (L.next land.new) result }
     ensures plain { OnlyRises (L.is_plain land.old) (L.is_plain land.new) }
     ensures slots { L.slots land.new ≡ L.slots land.old }
+    ensures over { L.over land.new ≡ L.over land.old }
 {
     land.free_part(then.tree, steps);
     land.put_bare(
@@ -87,6 +89,7 @@ pub(crate) fn close_side<L: Land, S: Steps>(
     ensures lacks { S.lacks steps.new ≡ S.lacks steps.old }
     ensures plain { OnlyRises (L.is_plain land.old) (L.is_plain land.new) }
     ensures slots { L.slots land.new ≡ L.slots land.old }
+    ensures over { L.over land.new ≡ L.over land.old }
 {
     land.free_part(tree, steps);
     land.put_bare(side, Form::Side { stage: Stage::Gone });

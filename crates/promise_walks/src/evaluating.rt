@@ -91,6 +91,7 @@ fn close<L: Land, S: Steps>(
     ensures bound { vec_len stack.new ≤ L.slots land.old + 1 }
     ensures room { vec_capacity stack.old ≤ vec_capacity stack.new }
     ensures slots { L.slots land.new ≡ L.slots land.old }
+    ensures over { L.over land.new ≡ L.over land.old }
 {
     match pending {
         Pending::Then(then) => match close_then(land, false, then, outcome, steps) {
@@ -122,6 +123,7 @@ fn climb_all<L: Land, S: Steps>(
     ensures lacks { HasLacked (is_err result) (S.lacks steps.old) (S.lacks steps.new) }
     ensures plain { OnlyRises (L.is_plain land.old) (L.is_plain land.new) }
     ensures slots { L.slots land.new ≡ L.slots land.old }
+    ensures over { L.over land.new ≡ L.over land.old }
     ensures room { vec_capacity stack.old ≤ vec_capacity stack.new }
 {
     stack.clear();
@@ -157,6 +159,7 @@ pub fn evaluate<L: Land, S: Steps>(
     ensures lacks { HasLacked (is_err result) (S.lacks steps.old) (S.lacks steps.new) }
     ensures plain { OnlyRises (L.is_plain land.old) (L.is_plain land.new) }
     ensures slots { L.slots land.new ≡ L.slots land.old }
+    ensures over { L.over land.new ≡ L.over land.old }
     ensures room { vec_capacity stack.old ≤ vec_capacity stack.new }
 {
     climb_all(land, stack, root, steps)

@@ -1,5 +1,5 @@
 //! What evaluations stand on.
-ghost use Rattle.std.specs.Prelude.{◌≡◌, ℕ, List, [], Bool, true, option_copied, is_err};
+ghost use Rattle.std.specs.Prelude.{◌≡◌, ℕ, List, Option, [], Bool, true, option_copied, is_err};
 ghost use Rattle.kj_base.specs.Counts.{HasLacked};
 ghost use Rattle.kj_base.specs.Places.{Spot, Row as RowSeen};
 ghost use Rattle.kj_model.specs.World.{World};
@@ -38,8 +38,14 @@ pub trait Land {
     /// Whether a node is live and was made the tree of another one.
     ghost is_taken: { Self → ℕ → Bool };
 
+    /// The root that each name promises.
+    ghost roots: { Self → ℕ → Option ℕ };
+
     /// Whether a number was given to a node that is no hub and no branch, or that went.
     ghost is_plain: { Self → ℕ → Bool };
+
+    /// The trees that are left over, which no call changes.
+    ghost over: { Self → List ℕ };
 
     /// Whether rows fit, by the number of slots and the spots of the live nodes.
     ghost rule: { ℕ → List Spot → List RowSeen → Bool };
@@ -59,14 +65,16 @@ pub trait Land {
         requires bare { IsBare form }
         ensures stands { (w : World) → stands self.old w → stands self.new (put node.number.0 (shown [] form) w) }
         ensures plain { OnlyRises (is_plain self.old) (is_plain self.new) }
-        ensures slots { slots self.new ≡ slots self.old };
+        ensures slots { slots self.new ≡ slots self.old }
+        ensures over { over self.new ≡ over self.old };
 
     /// A tree goes while an event fires.
     fn free_part<S: Steps>(&mut self, tree: Link, steps: &mut S)
         ensures does { Does (stands self.old) (stands self.new) (freed tree.number.0) (λ s. s) (S.told steps.old) (S.told steps.new) }
         ensures lacks { S.lacks steps.new ≡ S.lacks steps.old }
         ensures plain { OnlyRises (is_plain self.old) (is_plain self.new) }
-        ensures slots { slots self.new ≡ slots self.old };
+        ensures slots { slots self.new ≡ slots self.old }
+        ensures over { over self.new ≡ over self.old };
 
     /// A step runs under a node, which may be below a Chain: its commands are carried out, and then its ending.
     fn step<S: Steps>(
@@ -79,9 +87,10 @@ pub trait Land {
     ) -> Result<Given, NoMemory>
         ensures gives { Gives (stands self.old) (stands self.new) rule (λ setting s. run_step setting under_chain node.number.0 step.0 input s) gave_given (S.told steps.old) (S.told steps.new) result }
         ensures lacks { HasLacked (is_err result) (S.lacks steps.old) (S.lacks steps.new) }
-        ensures root { GivesRoot (is_taken self.new) (next self.new) result }
+        ensures root { GivesRoot (roots self.new) (is_taken self.new) (next self.new) result }
         ensures plain { OnlyRises (is_plain self.old) (is_plain self.new) }
-        ensures slots { slots self.new ≡ slots self.old };
+        ensures slots { slots self.new ≡ slots self.old }
+        ensures over { over self.new ≡ over self.old };
 
     /// The slots of each world that it stands for.
     ghost slots_are: { (land : Self) (w : World) → stands land w → w.limits.slots ≡ slots land };

@@ -50,9 +50,10 @@ pub fn evaluate_link<L: Land, S: Steps>(
     requires room { L.slots land.old + 1 ≤ vec_capacity stack.old }
     ensures gives { Gives (L.stands land.old) (L.stands land.new) L.rule (λ setting s. value_link setting link.number.0 s) gave_given (S.told steps.old) (S.told steps.new) result }
     ensures lacks { HasLacked (is_err result) (S.lacks steps.old) (S.lacks steps.new) }
-    ensures root { GivesRoot (L.is_taken land.new) (L.next land.new) result }
+    ensures root { GivesRoot (L.roots land.new) (L.is_taken land.new) (L.next land.new) result }
     ensures plain { OnlyRises (L.is_plain land.old) (L.is_plain land.new) }
     ensures slots { L.slots land.new ≡ L.slots land.old }
+    ensures over { L.over land.new ≡ L.over land.old }
     ensures room { vec_capacity stack.old ≤ vec_capacity stack.new }
 {
     let Some(then) = continuation(land, link) else {

@@ -34,6 +34,7 @@ walking-preserved g c =
       stack = done.stack;
       plain = rises_then _ _ _ before.plain done.plain;
       slots = done.slots ∙ before.slots;
+      over = done.over ∙ before.over;
       bound = omega (arith, done.bound, same);
       room = omega (arith, done.room, before.room, same, c.pop.ensures.capacity);
       more = omega (arith, done.room, before.more, c.pop.ensures.capacity);

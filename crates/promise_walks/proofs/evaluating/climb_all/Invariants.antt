@@ -14,6 +14,7 @@ invariant-walking g l =
       stack : ArePlain (g.L.Land.is_plain l.land) l.stack.items;
       plain : OnlyRises (g.L.Land.is_plain l.fn.land) (g.L.Land.is_plain l.land);
       slots : g.L.Land.slots l.land ≡ g.L.Land.slots l.fn.land;
+      over : g.L.Land.over l.land ≡ g.L.Land.over l.fn.land;
       bound : vec_len l.stack ≤ d;
       room : d ≤ vec_capacity l.stack;
       more : vec_capacity l.fn.stack ≤ vec_capacity l.stack;

@@ -1,0 +1,4 @@
+use Rattle.promise_eval.proofs.evaluator.Evaluator.evaluate.Goals as goal
+
+pub returns-clause-gives : goal.returns-clause-gives
+returns-clause-gives g c = rw (← c.self.view_is) c.evaluate.ensures.gives

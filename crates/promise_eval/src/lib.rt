@@ -1,0 +1,16 @@
+//! The evaluation of trees over any keepers of nodes and names: steps run, and their commands are carried out.
+#![tactic(auto)]
+
+mod acting;
+mod applies;
+mod ending;
+mod evaluator;
+mod ground;
+mod keepers;
+mod landing;
+
+pub use acting::run_step;
+pub use applies::Applies;
+pub use evaluator::Evaluator;
+pub use ground::Ground;
+pub use keepers::Keepers;
