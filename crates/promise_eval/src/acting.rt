@@ -10,21 +10,16 @@ ghost use Rattle.promise_walks.specs.Walks.{Both};
 ghost use Rattle.promise_walks.specs.Values.{Answer, Gives, GivesRoot, given_of, gave_given, setting_of};
 ghost use Rattle.promise_eval.specs.Done.{IsDone, commands_of};
 
-use crate::applies::Applies;
 use crate::ending::{end, refused};
 use kj_base::{Link, NoMemory, Outcome, StepId};
+use promise_apply::apply;
 use promise_commands::{Action, Command, Steps};
 use promise_names::Names;
 use promise_nodes::Nodes;
 use promise_walks::{Given, Parts};
 
 // Commands in order, until the first is refused; whether none was.
-fn apply_all<A: Applies, N: Nodes, M: Names>(
-    applier: &A,
-    nodes: &mut N,
-    names: &mut M,
-    commands: &[Command],
-) -> bool
+fn apply_all<N: Nodes, M: Names>(nodes: &mut N, names: &mut M, commands: &[Command]) -> bool
     requires free { AreFree (M.roots names.old) (N.is_taken nodes.old) (N.next nodes.old) }
     requires few { M.count names.old ≤ M.limit names.old }
     ensures applied { (answer : Answer) (s : State) → Both (N.stands nodes.old) (M.stands names.old) s.world → IsDone (Both (N.stands nodes.new) (M.stands names.new)) s.past result (all_applied (setting_of N.rule answer) (commands_of commands.now) s) }
@@ -35,7 +30,7 @@ fn apply_all<A: Applies, N: Nodes, M: Names>(
     ensures over { M.over names.new ≡ M.over names.old }
 {
     for i in 0..commands.len() {
-        if applier.apply(nodes, names, &commands[i]).is_err() {
+        if apply(nodes, names, &commands[i]).is_err() {
             return false;
         }
     }
@@ -43,8 +38,7 @@ fn apply_all<A: Applies, N: Nodes, M: Names>(
 }
 
 // The commands of an action, and then its ending; the first refusal decides in its place.
-fn act<A: Applies, N: Nodes, M: Names>(
-    applier: &A,
+fn act<N: Nodes, M: Names>(
     nodes: &mut N,
     names: &mut M,
     search: &mut Vec<Parts>,
@@ -64,7 +58,7 @@ fn act<A: Applies, N: Nodes, M: Names>(
     ensures over { M.over names.new ≡ M.over names.old }
     ensures room { vec_capacity search.old ≤ vec_capacity search.new }
 {
-    if !apply_all(applier, nodes, names, action.commands.as_slice()) {
+    if !apply_all(nodes, names, action.commands.as_slice()) {
         return refused();
     }
     end(nodes, names, search, under_chain, action.ending, input)
@@ -73,8 +67,7 @@ fn act<A: Applies, N: Nodes, M: Names>(
 /// A step runs under a node, which may be directly below a Chain: its commands are carried out inside, and then its
 /// ending. A step that finds no memory stops the loop. The search is a stack with room for slots + 1, and may have
 /// anything in it.
-pub fn run_step<A: Applies, N: Nodes, M: Names, S: Steps>(
-    applier: &A,
+pub fn run_step<N: Nodes, M: Names, S: Steps>(
     nodes: &mut N,
     names: &mut M,
     search: &mut Vec<Parts>,
@@ -98,7 +91,7 @@ pub fn run_step<A: Applies, N: Nodes, M: Names, S: Steps>(
     ensures room { vec_capacity search.old ≤ vec_capacity search.new }
 {
     match steps.run(node.number, step, &input) {
-        Ok(action) => Ok(act(applier, nodes, names, search, under_chain, action, input)),
+        Ok(action) => Ok(act(nodes, names, search, under_chain, action, input)),
         Err(none) => {
             names.stop();
             Err(none)

@@ -6,7 +6,6 @@ ghost use Rattle.promise_nodes.specs.Kept.{OnlyRises};
 ghost use Rattle.promise_walks.specs.Walks.{Both};
 ghost use Rattle.promise_walks.specs.Values.{Gives, GivesRoot, gave, gave_given};
 
-use crate::applies::Applies;
 use crate::ground::Ground;
 use kj_base::{Link, NoMemory, Outcome};
 use promise_commands::Steps;
@@ -18,12 +17,12 @@ use std::marker::Model;
 
 /// Evaluates the trees of a loop, by a stack of its own.
 #[derive(Drop)]
-pub struct Evaluator<N: Nodes + Drop, M: Names + Drop, A: Applies + Drop> {
-    pub ground: Ground<N, M, A>,
+pub struct Evaluator<N: Nodes + Drop, M: Names + Drop> {
+    pub ground: Ground<N, M>,
     pending: Vec<Pending>,
 }
 
-impl<N: Nodes + Drop, M: Names + Drop, A: Applies + Drop> Model for Evaluator<N, M, A> {
+impl<N: Nodes + Drop, M: Names + Drop> Model for Evaluator<N, M> {
     ghost use Rattle.std.specs.Prelude.{◌≤◌, ◌+◌, vec_capacity};
     ghost use Rattle.promise_eval.specs.declared.keepers.Keepers.{Keepers};
 
@@ -34,9 +33,9 @@ impl<N: Nodes + Drop, M: Names + Drop, A: Applies + Drop> Model for Evaluator<N,
     ghost invariant = { λ e. N.slots e.ground.nodes + 1 ≤ vec_capacity e.pending };
 }
 
-impl<N: Nodes + Drop, M: Names + Drop, A: Applies + Drop> Evaluator<N, M, A> {
+impl<N: Nodes + Drop, M: Names + Drop> Evaluator<N, M> {
     /// Over this ground. This takes the memory of the stack.
-    pub fn new(alloc: Global, ground: Ground<N, M, A>) -> Result<Evaluator<N, M, A>, NoMemory>
+    pub fn new(alloc: Global, ground: Ground<N, M>) -> Result<Evaluator<N, M>, NoMemory>
         ensures { IfOk result (λ e. e ≡ ground) }
     {
         let depth = ground.nodes().slots() as usize + 1;

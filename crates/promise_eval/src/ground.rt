@@ -11,11 +11,11 @@ ghost use Rattle.promise_nodes.specs.Shown.{link_number};
 ghost use Rattle.promise_nodes.specs.Kept.{OnlyRises};
 ghost use Rattle.promise_walks.specs.Walks.{Both};
 ghost use Rattle.promise_walks.specs.Values.{Answer, setting_of};
-ghost use Rattle.promise_eval.specs.Done.{IsDone};
+ghost use Rattle.promise_apply.specs.Applying.{IsApplied};
 
-use crate::applies::Applies;
 use crate::keepers::Keepers;
 use kj_base::{Link, NoMemory};
+use promise_apply::apply;
 use promise_commands::{Command, Refused};
 use promise_names::Names;
 use promise_nodes::Nodes;
@@ -25,13 +25,12 @@ use std::marker::Model;
 /// The nodes and the names of a loop, ready for walks and steps (kj/async.c++, the graph of an `EventLoop`). It stands
 /// for each world that its nodes and its names both stand for.
 #[derive(Drop)]
-pub struct Ground<N: Nodes + Drop, M: Names + Drop, A: Applies + Drop> {
+pub struct Ground<N: Nodes + Drop, M: Names + Drop> {
     /// Whoever changes them shows that they stay ready.
     pub keepers: Keepers<N, M>,
-    pub applier: A,
 }
 
-impl<N: Nodes + Drop, M: Names + Drop, A: Applies + Drop> Model for Ground<N, M, A> {
+impl<N: Nodes + Drop, M: Names + Drop> Model for Ground<N, M> {
     ghost use Rattle.std.specs.Prelude.{vec_capacity};
     ghost use Rattle.promise_eval.specs.Ready.{IsReady};
     ghost use Rattle.promise_eval.specs.declared.keepers.Keepers.{Keepers};
@@ -43,9 +42,9 @@ impl<N: Nodes + Drop, M: Names + Drop, A: Applies + Drop> Model for Ground<N, M,
     ghost invariant = { λ g. IsReady (M.roots g.keepers.names) (M.count g.keepers.names) (M.limit g.keepers.names) (N.is_taken g.keepers.nodes) (N.next g.keepers.nodes) (N.slots g.keepers.nodes) (vec_capacity g.keepers.frames) (vec_capacity g.keepers.search) };
 }
 
-impl<N: Nodes + Drop, M: Names + Drop, A: Applies + Drop> Ground<N, M, A> {
+impl<N: Nodes + Drop, M: Names + Drop> Ground<N, M> {
     /// Over names of which none promises a tree yet. This takes the memory of the walks.
-    pub fn new(alloc: Global, nodes: N, names: M, applier: A) -> Result<Ground<N, M, A>, NoMemory>
+    pub fn new(alloc: Global, nodes: N, names: M) -> Result<Ground<N, M>, NoMemory>
         requires no_promises { (name : ℕ) → M.roots names name ≡ None }
         requires few { M.count names ≤ M.limit names }
         ensures nodes { IfOk result (λ g. g.nodes ≡ nodes) }
@@ -61,7 +60,6 @@ impl<N: Nodes + Drop, M: Names + Drop, A: Applies + Drop> Ground<N, M, A> {
                 frames,
                 search,
             },
-            applier,
         })
     }
 
@@ -81,14 +79,13 @@ impl<N: Nodes + Drop, M: Names + Drop, A: Applies + Drop> Ground<N, M, A> {
 
     /// A command is refused, and all is as before; or it has its effect.
     pub fn apply(&mut self, command: &Command) -> Result<(), Refused>
-        ensures applied { (answer : Answer) (inside : Bool) (s : State) → Both (N.stands self.old.nodes) (M.stands self.old.names) s.world → IsDone (Both (N.stands self.new.nodes) (M.stands self.new.names)) s.past (refusal_of result) (apply (setting_of N.rule answer) inside (command_of command.now) s) }
+        ensures applied { (answer : Answer) (inside : Bool) (s : State) → Both (N.stands self.old.nodes) (M.stands self.old.names) s.world → IsApplied (Both (N.stands self.new.nodes) (M.stands self.new.names)) s.past (refusal_of result) (apply (setting_of N.rule answer) inside (command_of command.now) s) }
         ensures plain { OnlyRises (N.is_plain self.old.nodes) (N.is_plain self.new.nodes) }
         ensures slots { N.slots self.new.nodes ≡ N.slots self.old.nodes }
         ensures limit { M.limit self.new.names ≡ M.limit self.old.names }
         ensures over { M.over self.new.names ≡ M.over self.old.names }
     {
-        self.applier
-            .apply(&mut self.keepers.nodes, &mut self.keepers.names, command)
+        apply(&mut self.keepers.nodes, &mut self.keepers.names, command)
     }
 
     /// The first event leaves the queue; its node, or number 0 for the wait.

@@ -1,6 +1,5 @@
 //! The keepers of a loop, as evaluations see them.
 use crate::acting::run_step;
-use crate::applies::Applies;
 use crate::ground::Ground;
 use kj_base::{Form, Link, NoMemory, Outcome, StepId};
 use promise_commands::Steps;
@@ -8,7 +7,7 @@ use promise_names::Names;
 use promise_nodes::Nodes;
 use promise_walks::{Given, Land, free_part, put_bare};
 
-impl<N: Nodes + Drop, M: Names + Drop, A: Applies + Drop> Land for Ground<N, M, A> {
+impl<N: Nodes + Drop, M: Names + Drop> Land for Ground<N, M> {
     ghost use Rattle.promise_walks.specs.Walks.{Both};
 
     ghost stands = { λ g. Both (N.stands g.nodes) (M.stands g.names) };
@@ -59,7 +58,6 @@ impl<N: Nodes + Drop, M: Names + Drop, A: Applies + Drop> Land for Ground<N, M, 
         steps: &mut S,
     ) -> Result<Given, NoMemory> {
         run_step(
-            &self.applier,
             &mut self.keepers.nodes,
             &mut self.keepers.names,
             &mut self.keepers.search,

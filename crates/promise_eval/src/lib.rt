@@ -2,7 +2,6 @@
 #![tactic(auto)]
 
 mod acting;
-mod applies;
 mod ending;
 mod evaluator;
 mod ground;
@@ -10,7 +9,6 @@ mod keepers;
 mod landing;
 
 pub use acting::run_step;
-pub use applies::Applies;
 pub use evaluator::Evaluator;
 pub use ground::Ground;
 pub use keepers::Keepers;

@@ -9,6 +9,7 @@ use Rattle.kj_base.specs.Record.{Item, Run, Free, Tells}
 use Rattle.kj_model.specs.Nodes.{parts_of}
 use Rattle.kj_model.specs.World.{World, State, Setting}
 use Rattle.kj_model.specs.Value.{Given, Gave, Took}
+pub use Rattle.promise_commands.specs.Answers.{Answer, Agrees}
 use Rattle.promise_nodes.specs.Shown.{shown}
 use Rattle.promise_nodes.specs.Kept.{ShowsPlain}
 use Rattle.promise_walks.specs.declared.land.Given.{Given as GivenCase}
@@ -27,19 +28,9 @@ Valuing = ℕ → State → Valued Outcome
 abbrev pub Rule : Type 0
 Rule = ℕ → List Spot → List Row → Bool
 
--- what the next run of a step gives, from the record so far; none is want of memory
-abbrev pub Answer : Type 0
-Answer = List Item → ℕ → Option Action
-
 -- a store with this rule, and these answers
 abbrev pub setting_of : Rule → Answer → Setting
 setting_of rule answer = record { fits = rule; answer = answer }
-
--- the answers are those that the runs among the items had, after this record
-abbrev pub Agrees : Answer → List Item → List Item → Type 0
-Agrees answer past [] = Unit {0}
-Agrees answer past (Run n step input action ∷ items) = (answer past step ≡ Some action) × Agrees answer (past ++ Run n step input action ∷ []) items
-Agrees answer past (Free n ∷ items) = Agrees answer (past ++ Free n ∷ []) items
 
 -- from each state that stood, with answers that agree with these items, one that stands now, with these items more:
 -- what is left to do comes to the same end

@@ -1,0 +1,13 @@
+//! The layers of the loop over the plain keepers: nodes in a table with the plain queue, and names in a table. What any
+//! keepers must have is shown of these here, and the layers run.
+#![tactic(auto)]
+
+#[cfg(test)]
+mod commands;
+#[cfg(test)]
+mod evaluations;
+mod tables;
+mod teller;
+
+pub use tables::{TableEvaluator, evaluator_over_tables};
+pub use teller::Teller;

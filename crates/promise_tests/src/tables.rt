@@ -1,0 +1,45 @@
+//! The layers over the plain store, the plain queue and the table of names.
+ghost use Rattle.std.specs.Prelude.{◌≤◌, IfOk};
+ghost use Rattle.kj_model.specs.World.{new_world};
+ghost use Rattle.node_table.specs.NodeTable.{node_of, Stands as TableStands};
+ghost use Rattle.promise_graph.specs.Standing.{StandsFor};
+ghost use Rattle.name_table.specs.Table.{Stands as NamesStand};
+
+use event_list::EventList;
+use kj_base::{Limits, MAX_SLOTS, NoMemory};
+use name_table::NameTable;
+use node_table::NodeTable;
+use promise_eval::{Evaluator, Ground};
+use promise_graph::Graph;
+use std::alloc::Global;
+
+/// Evaluates trees of nodes in a table.
+pub type TableEvaluator = Evaluator<Graph<NodeTable, EventList>, NameTable>;
+
+// An empty graph.
+fn table_graph(alloc: Global, limits: Limits) -> Result<Graph<NodeTable, EventList>, NoMemory>
+    requires few { limits.slots ≤ MAX_SLOTS }
+    ensures stands { IfOk result (λ g. StandsFor (node_of g.store) g.queue.events (TableStands g.store) g.marks (new_world limits)) }
+{
+    let store = match NodeTable::new(alloc, limits.slots) {
+        Ok(store) => store,
+        Err(none) => return Err(none),
+    };
+    let queue = match EventList::new(alloc, limits.slots + 1) {
+        Ok(queue) => queue,
+        Err(none) => return Err(none),
+    };
+    Graph::new(alloc, limits, store, queue)
+}
+
+/// For a loop with these limits, in which nothing was built.
+pub fn evaluator_over_tables(alloc: Global, limits: Limits) -> Result<TableEvaluator, NoMemory>
+    requires few { limits.slots ≤ MAX_SLOTS }
+    ensures nodes { IfOk result (λ e. StandsFor (node_of e.nodes.store) e.nodes.queue.events (TableStands e.nodes.store) e.nodes.marks (new_world limits)) }
+    ensures names { IfOk result (λ e. NamesStand e.names (new_world limits)) }
+{
+    let graph = table_graph(alloc, limits)?;
+    let names = NameTable::new(alloc, limits)?;
+    let ground = Ground::new(alloc, graph, names)?;
+    Evaluator::new(alloc, ground)
+}

@@ -1,0 +1,98 @@
+//! Steps for tests.
+ghost use Rattle.std.specs.Prelude.{None};
+
+use kj_base::{Ending, Exception, Kind, Name, NoMemory, NodeId, Outcome, StepId, Words};
+use promise_commands::{Action, Command, Commands, Steps};
+use std::alloc::Global;
+
+/// What was told.
+#[derive(Clone, Copy, Debug, PartialEq, Eq)]
+pub enum Told {
+    Ran(NodeId, StepId),
+    Freed(NodeId),
+}
+
+/// The step that gives the word 7.
+pub const GIVES_SEVEN: StepId = StepId(1);
+/// The step that throws code 2,000.
+pub const THROWS: StepId = StepId(2);
+/// The step that builds a promise of name 50 and gives it.
+pub const GIVES_PROMISE: StepId = StepId(3);
+/// The step whose second command is refused, and whose third would build a promise of name 61.
+pub const IS_REFUSED: StepId = StepId(4);
+/// The step that finds no memory.
+pub const LACKS: StepId = StepId(5);
+
+/// Tells what ran and what was freed. Steps but those above pass their input on.
+#[derive(Drop)]
+pub struct Teller {
+    pub told: Vec<Told>,
+    pub lacks: u64,
+}
+
+impl Teller {
+    /// With room for so many items; it keeps no more.
+    pub fn new(alloc: Global, room: usize) -> Result<Teller, NoMemory> {
+        Ok(Teller {
+            told: Vec::with_capacity(alloc, room)?,
+            lacks: 0,
+        })
+    }
+}
+
+fn later(name: u32) -> Command {
+    Command::Later { name: Name(name) }
+}
+
+fn commands_of(step: StepId) -> Commands {
+    let mut commands = Commands::new();
+    if step == GIVES_PROMISE {
+        commands.push(later(50));
+    }
+    if step == IS_REFUSED {
+        commands.push(later(60));
+        commands.push(later(60));
+        commands.push(later(61));
+    }
+    commands
+}
+
+fn ending_of(step: StepId) -> Ending {
+    if step == GIVES_SEVEN {
+        let mut words = Words::new();
+        words.push(7);
+        return Ending::Value(words);
+    }
+    if step == THROWS {
+        return Ending::Throw(Exception {
+            kind: Kind::Overloaded,
+            code: 2000,
+        });
+    }
+    if step == GIVES_PROMISE {
+        return Ending::Promise(Name(50));
+    }
+    Ending::Input
+}
+
+impl Steps for Teller {
+    ghost told = { λ _. None };
+
+    ghost lacks = { λ s. s.lacks };
+
+    fn run(&mut self, node: NodeId, step: StepId, _input: &Outcome) -> Result<Action, NoMemory> {
+        if step == LACKS {
+            self.lacks = self.lacks.saturating_add(1);
+            return Err(NoMemory);
+        }
+        let _ = self.told.push(Told::Ran(node, step));
+        Ok(Action {
+            commands: commands_of(step),
+            ending: ending_of(step),
+        })
+    }
+
+    fn freed(&mut self, node: NodeId) {
+        let _ = self.told.push(Told::Freed(node));
+    }
+}
