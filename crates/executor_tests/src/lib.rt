@@ -3,6 +3,8 @@
 
 mod both;
 mod item;
+#[cfg(test)]
+mod looks;
 mod patient;
 #[cfg(test)]
 mod rows;
