@@ -17,7 +17,7 @@ use Rattle.kj_ownership.specs.Fits.{Fits}
 use Rattle.kj_ownership.specs.Firing.{IsFiring, world_freed, Outlives, BranchesLive, BranchesOutlive}
 use Rattle.kj_model.proofs.Members.{in_self, in_none}
 use Rattle.kj_model.proofs.Falling.{node_frees}
-use Rattle.kj_ownership.proofs.Stays.{in_times, live_after}
+use Rattle.kj_ownership.proofs.Stays.{in_times, live_after, owner_live}
 use Rattle.kj_ownership.proofs.Climb.{path_stays}
 use Rattle.kj_ownership.proofs.Commands.{tended_open, owned_comes, fuel_for, tree_freed}
 use Rattle.kj_ownership.proofs.Frames.{framed_tended, stem_parts}
@@ -41,6 +41,15 @@ fired_outlives n t s f own =
     let td = (framed_tended [] [] [] s n [] f.owned (inl (f.fires, f.live))).0 in
     let comes = owned_comes (Holding gs) [] [] [] s n t td.above f.owned f.live own td.climbs in
     outlives_out n t s.world (path_stays (Holding gs) (depth_of s.world) t [] [] (n ∷ td.above) s f.owned (tended_open [] [] [] gs s n f.owned td) comes (fuel_for s f.owned.room) n (in_self n td.above)) f.live
+
+-- so does its owner
+pub owner_outlives : (n q t : ℕ) (s : State) → IsFiring n s → owns n t s.world.nodes ≡ true → owns q n s.world.nodes ≡ true → Outlives q t s.world
+owner_outlives n q t s f own own_n =
+    let gs = option_to_list s.world.firing in
+    let td = (framed_tended [] [] [] s n [] f.owned (inl (f.fires, f.live))).0 in
+    let opens = tended_open [] [] [] gs s n f.owned td in
+    let comes = owned_comes (Holding gs) [] [] [] s n t td.above f.owned f.live own td.climbs in
+    outlives_out q t s.world (path_stays (Holding gs) (depth_of s.world) t [] [] (n ∷ td.above) s f.owned opens comes (fuel_for s f.owned.room) q (opens.up n q (in_self n td.above) own_n)) (owner_live q n s.world.nodes own_n)
 
 -- the branches of a hub
 branch_live : (hub : ℕ) (o : Option Form) → is_branch_of hub o ≡ true → is_some o ≡ true
@@ -86,3 +95,13 @@ value_outlives setting n t s fits f own = let e = value_evals setting n t s fits
 
 pub value_branches : (setting : Setting) (n t : ℕ) (s : State) → Fits setting → IsFiring n s → owns n t s.world.nodes ≡ true → BranchesOutlive n t (value setting t s).0.world
 value_branches setting n t s fits f own = let e = value_evals setting n t s fits f own in branches_outlive n t (value setting t s).0 (evals_firing s (value setting t s).0 n e f) (evals_owns s (value setting t s).0 n t e own)
+
+pub value_owner : (setting : Setting) (n tree owner : ℕ) (s : State) → Fits setting → IsFiring n s → owns n tree s.world.nodes ≡ true → owns owner n s.world.nodes ≡ true → stem (form_at owner (value setting tree s).0.world.nodes) ≡ stem (form_at owner s.world.nodes)
+value_owner setting n tree owner s fits f own own_n = (value_evals setting n tree s fits f own).owner n owner f.fires own_n
+
+pub value_owner_outlives : (setting : Setting) (n tree owner : ℕ) (s : State) → Fits setting → IsFiring n s → owns n tree s.world.nodes ≡ true → owns owner n s.world.nodes ≡ true → Outlives owner tree (value setting tree s).0.world
+value_owner_outlives setting n tree owner s fits f own own_n =
+    let u = (value setting tree s).0 in
+    let e = value_evals setting n tree s fits f own in
+    let own_then : owns owner n u.world.nodes ≡ true = ap (is_in n) (sym (stem_parts (form_at owner u.world.nodes)) ∙ ap parts_found (e.owner n owner f.fires own_n) ∙ stem_parts (form_at owner s.world.nodes)) ∙ own_n in
+    owner_outlives n owner tree u (evals_firing s u n e f) (evals_owns s u n tree e own) own_then

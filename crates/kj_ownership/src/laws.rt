@@ -89,10 +89,12 @@ pub fn events_fire_and_end()
     ensures turned { (setting : Setting) (s : State) → Fits setting → Rests s → Rests (turn setting s).0 }
 {}
 
-/// While a node's event fires, the steps of its tree leave its form, but for a hub's name and branches, and its event still fires; when the tree was freed after that, the node lives, and the branches that a hub has then.
+/// While a node's event fires, the steps of its tree leave its form and that of its owner, but for a hub's name and branches, and its event still fires; when the tree was freed after that, the node and its owner live, and the branches that a hub has then.
 pub fn what_fires_outlives_its_tree()
     ensures fires { (setting : Setting) (n tree : ℕ) (s : State) → Fits setting → IsFiring n s → owns n tree s.world.nodes ≡ true → IsFiring n (value setting tree s).0 }
     ensures form { (setting : Setting) (n tree : ℕ) (s : State) → Fits setting → IsFiring n s → owns n tree s.world.nodes ≡ true → stem (form_at n (value setting tree s).0.world.nodes) ≡ stem (form_at n s.world.nodes) }
     ensures outlives { (setting : Setting) (n tree : ℕ) (s : State) → Fits setting → IsFiring n s → owns n tree s.world.nodes ≡ true → Outlives n tree (value setting tree s).0.world }
     ensures branches { (setting : Setting) (n tree : ℕ) (s : State) → Fits setting → IsFiring n s → owns n tree s.world.nodes ≡ true → BranchesOutlive n tree (value setting tree s).0.world }
+    ensures owner_form { (setting : Setting) (n tree owner : ℕ) (s : State) → Fits setting → IsFiring n s → owns n tree s.world.nodes ≡ true → owns owner n s.world.nodes ≡ true → stem (form_at owner (value setting tree s).0.world.nodes) ≡ stem (form_at owner s.world.nodes) }
+    ensures owner_outlives { (setting : Setting) (n tree owner : ℕ) (s : State) → Fits setting → IsFiring n s → owns n tree s.world.nodes ≡ true → owns owner n s.world.nodes ≡ true → Outlives owner tree (value setting tree s).0.world }
 {}
