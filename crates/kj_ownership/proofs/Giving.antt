@@ -1,16 +1,16 @@
 -- A Chain that fires gives its place to the promise that its step gave.
-use Rattle.std.proofs.Common.{◌≡◌, ◌≢◌, inl, ℕ, ◌+◌, ◌≤◌, List, [], ◌∷◌, Bool, true, false, cond, Option, None, Some, arith, refl, sym, ap, ◌∙◌, subst}
+use Rattle.std.proofs.Common.{◌≡◌, inl, ℕ, ◌≤◌, List, [], ◌∷◌, Bool, true, false, cond, Option, None, Some, arith, refl, sym, ap, ◌∙◌, subst}
 use Rattle.std.specs.Prelude.{is_some, not}
 use Rattle.std.proofs.lemmas.Bool.{false≢true}
 use Rattle.kj_base.specs.Record.{Item}
-use Rattle.kj_model.specs.Nodes.{Entry, Form, Chain, Race, Join, form_at, owner_of, parts_found, is_in}
-use Rattle.kj_model.specs.World.{World, State, Setting, depth_of}
+use Rattle.kj_model.specs.Nodes.{Entry, Form, Chain, Race, Join, form_at, parts_found, is_in}
+use Rattle.kj_model.specs.World.{State, Setting, depth_of}
 use Rattle.kj_model.specs.Free.{usual}
 use Rattle.kj_model.specs.Value.{Given, Gave, Took, freed, value_link}
 use Rattle.kj_model.specs.Falling.{falling}
 use Rattle.kj_model.specs.Owned.{numbers}
 use Rattle.kj_model.specs.Framed.{times, FreedBy}
-use Rattle.kj_ownership.specs.Owners.{is_live, owns}
+use Rattle.kj_ownership.specs.Owners.{owns}
 use Rattle.kj_ownership.specs.Standing.{Standing}
 use Rattle.kj_ownership.specs.Stems.{stem}
 use Rattle.kj_ownership.specs.Shapes.{OfTree, suits, part_kind}

@@ -1,5 +1,5 @@
 -- A node whose event fires outlives its tree.
-use Rattle.std.proofs.Common.{◌≡◌, inl, ℕ, ◌+◌, ◌≤◌, List, [], ◌∷◌, Bool, true, false, cond, Option, None, Some, arith, refl, sym, ap, ◌∙◌, subst}
+use Rattle.std.proofs.Common.{◌≡◌, inl, ℕ, ◌+◌, ◌≤◌, List, [], ◌∷◌, Bool, true, false, cond, Option, None, Some, arith, refl, sym, ap, ◌∙◌}
 use Rattle.std.specs.Prelude.{is_some, option_to_list}
 use Rattle.std.proofs.lemmas.Bool.{false≢true}
 use Rattle.kj_base.specs.Record.{Item}
@@ -14,7 +14,7 @@ use Rattle.kj_ownership.specs.Owners.{is_live, owns}
 use Rattle.kj_ownership.specs.Standing.{one_if, Owned}
 use Rattle.kj_ownership.specs.Stems.{stem}
 use Rattle.kj_ownership.specs.Fits.{Fits}
-use Rattle.kj_ownership.specs.Firing.{IsFiring, world_freed, Outlives, BranchesLive, BranchesOutlive}
+use Rattle.kj_ownership.specs.Firing.{IsFiring, world_freed, Outlives, BranchesOutlive}
 use Rattle.kj_model.proofs.Members.{in_self, in_none}
 use Rattle.kj_model.proofs.Falling.{node_frees}
 use Rattle.kj_ownership.proofs.Stays.{in_times, live_after, owner_live}

@@ -13,7 +13,7 @@ use Rattle.kj_ownership.specs.Fits.{Fits}
 use Rattle.kj_ownership.specs.Kept.{Rests}
 use Rattle.kj_ownership.specs.Firing.{IsFiring, event_taken, event_ended}
 use Rattle.kj_model.proofs.Members.{in_self}
-use Rattle.kj_ownership.proofs.Turns.{Passes, firing_standing, fires_shaped, calm_shaped, form_fires, rewound_passes, taken_passes}
+use Rattle.kj_ownership.proofs.Turns.{firing_standing, fires_shaped, calm_shaped, form_fires, rewound_passes, taken_passes}
 
 -- the event of a node is a live node's
 head_in : (n : ℕ) (xs : List ℕ) → first_of xs ≡ Some n → is_in n xs ≡ true

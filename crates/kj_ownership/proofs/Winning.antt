@@ -1,12 +1,12 @@
 -- A Race outlives the tree of the Side that doesn't fire first.
-use Rattle.std.proofs.Common.{◌≡◌, ℕ, List, [], ◌∷◌, Bool, true, false, Option, None, Some, arith, refl, ap, ◌∙◌}
+use Rattle.std.proofs.Common.{◌≡◌, ℕ, List, [], ◌∷◌, true, false, Option, None, Some, arith, refl, ap, ◌∙◌}
 use Rattle.std.specs.Prelude.{nat_eq, is_some}
 use Rattle.std.proofs.lemmas.Bool.{false≢true}
 use Rattle.std.proofs.lemmas.Bool.Decides.{nat_tests}
 use Rattle.kj_base.specs.Record.{Item}
 use Rattle.kj_model.specs.Nodes.{Form, Stage, Waits, Fired, Keeps, Gone, Side, Race, form_at, parts_of, parts_found, is_in}
-use Rattle.kj_model.specs.World.{World, State}
-use Rattle.kj_model.specs.Changes.{silent, put}
+use Rattle.kj_model.specs.World.{State}
+use Rattle.kj_model.specs.Changes.{silent}
 use Rattle.kj_model.specs.Fire.{tree_freed}
 use Rattle.kj_ownership.specs.Owners.{is_live, owns}
 use Rattle.kj_ownership.specs.Standing.{Owned}
@@ -14,7 +14,7 @@ use Rattle.kj_ownership.specs.Shapes.{OfSide, suits, Shaped}
 use Rattle.kj_ownership.specs.Firing.{IsFiring, Outlives, race_decided, loser, side_emptied, MayWin}
 use Rattle.kj_model.proofs.Spared.{form_put_other}
 use Rattle.kj_model.proofs.Members.{in_self}
-use Rattle.kj_ownership.proofs.Sides.{OtherFreed, other_freed, IsDecided, is_decided}
+use Rattle.kj_ownership.proofs.Sides.{other_freed, is_decided}
 use Rattle.kj_ownership.proofs.Outlives.{outlives_out}
 
 -- the tree of the other Side, where it has one

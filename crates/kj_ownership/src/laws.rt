@@ -1,16 +1,16 @@
 //! Laws of ownership.
 ghost use Rattle.kj_base.specs.Commands.{Command, Drop, Stop};
 ghost use Rattle.kj_base.specs.Places.{counts};
+ghost use Rattle.kj_base.specs.Queue.{head_of};
+ghost use Rattle.kj_base.specs.Record.{Item};
 ghost use Rattle.kj_base.specs.declared.numbers.Limits.{Limits};
 ghost use Rattle.kj_model.specs.Apply.{apply, is_full, names_after, rows, would_free};
-ghost use Rattle.kj_base.specs.Queue.{head_of};
 ghost use Rattle.kj_model.specs.Calls.{Call, call, close, hubs_of, turn};
 ghost use Rattle.kj_model.specs.Changes.{frees_in, named, silent, unnamed};
 ghost use Rattle.kj_model.specs.Falling.{falling};
 ghost use Rattle.kj_model.specs.Fire.{fire_form};
 ghost use Rattle.kj_model.specs.Framed.{times};
 ghost use Rattle.kj_model.specs.Free.{Guard, Holding, free};
-ghost use Rattle.kj_base.specs.Record.{Item};
 ghost use Rattle.kj_model.specs.Nodes.{Chain, Entry, Race, Side, Waits, form_at, is_in, owner_of};
 ghost use Rattle.kj_model.specs.Owned.{IsInOrder, numbers, tree_roots};
 ghost use Rattle.kj_model.specs.Places.{table_fits};
