@@ -75,7 +75,7 @@ awaited_standing a loose loose2 s counts none zero_event st = record {
 one_of : (root : ℕ) (w : World) → suits OfTree (form_at root w.nodes) ≡ true → (p : ℕ) → is_in p (root ∷ []) ≡ true → suits OfTree (form_at p w.nodes) ≡ true
 one_of root w h p i = subst (λ (y : ℕ). suits OfTree (form_at y w.nodes) ≡ true) (in_one p root i) h
 
-held_rests : (name root : ℕ) (s : State) → held_at name s.world.names ≡ Some (Promise root) → s.world.awaited ≡ None → Rests s → Rests (silent (held_awaited name root) s)
+pub held_rests : (name root : ℕ) (s : State) → held_at name s.world.names ≡ Some (Promise root) → s.world.awaited ≡ None → Rests s → Rests (silent (held_awaited name root) s)
 held_rests name root s at waits r =
     let s1 = silent (unnamed name) s in
     let st1 = unnamed_standing name (Promise root) [] [] [] s at r.owned in

@@ -5,7 +5,7 @@ ghost use Rattle.kj_base.specs.Queue.{head_of};
 ghost use Rattle.kj_base.specs.Record.{Item};
 ghost use Rattle.kj_base.specs.declared.numbers.Limits.{Limits};
 ghost use Rattle.kj_model.specs.Apply.{apply, is_full, names_after, rows, would_free};
-ghost use Rattle.kj_model.specs.Calls.{Call, call, close, hubs_of, turn};
+ghost use Rattle.kj_model.specs.Calls.{Call, call, close, held_awaited, hubs_of, turn};
 ghost use Rattle.kj_model.specs.Changes.{frees_in, named, silent, unnamed};
 ghost use Rattle.kj_model.specs.Falling.{falling};
 ghost use Rattle.kj_model.specs.Fire.{fire_form};
@@ -88,6 +88,12 @@ pub fn events_fire_and_end()
     ensures ended { (setting : Setting) (n : ℕ) (s : State) → Fits setting → IsFiring n s → s.world.left_over ≡ [] → Rests (silent event_ended (fire_form setting n (form_at n s.world.nodes) s)) }
     ensures unawaited { (setting : Setting) (n : ℕ) (s : State) → Fits setting → IsFiring n s → s.world.awaited ≡ None → (fire_form setting n (form_at n s.world.nodes) s).world.awaited ≡ None }
     ensures turned { (setting : Setting) (s : State) → Fits setting → Rests s → Rests (turn setting s).0 }
+{}
+
+/// Between two calls a turn may begin, and where a wait begins.
+pub fn turns_begin_between_calls()
+    ensures kept { (s : State) → Kept s → Rests s }
+    ensures waits { (name root : ℕ) (s : State) → Kept s → held_at name s.world.names ≡ Some (Promise root) → Rests (silent (held_awaited name root) s) }
 {}
 
 /// While a node's event fires, the steps of its tree leave its form and that of its owner, but for a hub's name and branches, and its event still fires; when the tree was freed after that, the node and its owner live, and the branches that a hub has then.
