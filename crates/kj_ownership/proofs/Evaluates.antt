@@ -33,7 +33,7 @@ use Rattle.kj_ownership.proofs.Stays.{in_times, hub_unowned, owns_before}
 use Rattle.kj_ownership.proofs.Commands.{Tended, tended_open, tree_freed}
 use Rattle.kj_ownership.proofs.Changed.{put_standing}
 use Rattle.kj_ownership.proofs.Climb.{climb_apart}
-use Rattle.kj_ownership.proofs.Frames.{walk_same, framed_tended, within_more, fires_in, owner_on, owner_apart, stem_of, stem_parts, climb_stems, path_stems, frames_same}
+use Rattle.kj_ownership.proofs.Frames.{walk_same, framed_tended, within_more, fires_in, owner_on, owner_apart, stem_of, stem_parts, stem_owns, climb_stems, path_stems, frames_same}
 
 -- what stands above
 abbrev pub Rest : World → List ℕ → Type 0
@@ -62,7 +62,7 @@ OwnerStays w v = (b q : ℕ) → w.firing ≡ Some b → owns q b w.nodes ≡ tr
 pub owner_both : (u v w : World) → SameTurn u v → OwnerStays u v → OwnerStays v w → OwnerStays u w
 owner_both u v w same a c b q fires own =
     let e = a b q fires own in
-    c b q (same.firing ∙ fires) (ap (is_in b) (sym (stem_parts (form_at q v.nodes)) ∙ ap parts_found e ∙ stem_parts (form_at q u.nodes)) ∙ own) ∙ e
+    c b q (same.firing ∙ fires) (stem_owns q b u v e own) ∙ e
 
 -- from one state to a later one, while these nodes are being evaluated
 pub record Evals (s t : State) (fs : List ℕ) : Type 0 where

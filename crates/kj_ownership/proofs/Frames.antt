@@ -83,6 +83,9 @@ stem_parts None = refl
 stem_parts (Some (Hub content is_named branches)) = refl
 stem_parts (Some _) = refl
 
+pub stem_owns : (q p : ℕ) (w v : World) → stem (form_at q v.nodes) ≡ stem (form_at q w.nodes) → owns q p w.nodes ≡ true → owns q p v.nodes ≡ true
+stem_owns q p w v e own = ap (is_in p) (sym (stem_parts (form_at q v.nodes)) ∙ ap parts_found e ∙ stem_parts (form_at q w.nodes)) ∙ own
+
 pub stem_hub : (o : Option Form) → is_hub_form (stem o) ≡ is_hub_form o
 stem_hub None = refl
 stem_hub (Some (Hub content is_named branches)) = refl

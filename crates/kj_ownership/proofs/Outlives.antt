@@ -20,7 +20,7 @@ use Rattle.kj_model.proofs.Falling.{node_frees}
 use Rattle.kj_ownership.proofs.Stays.{in_times, live_after, owner_live}
 use Rattle.kj_ownership.proofs.Climb.{path_stays}
 use Rattle.kj_ownership.proofs.Commands.{tended_open, owned_comes, fuel_for, tree_freed}
-use Rattle.kj_ownership.proofs.Frames.{framed_tended, stem_parts}
+use Rattle.kj_ownership.proofs.Frames.{framed_tended, stem_owns}
 use Rattle.kj_ownership.proofs.Fires.{fired_frames}
 use Rattle.kj_ownership.proofs.Evaluates.{Evals, value_keeps, frame_live}
 use Rattle.kj_ownership.proofs.Applied.{commands_keep}
@@ -82,13 +82,19 @@ pub evals_firing : (s t : State) (n : ℕ) → Evals s t (n ∷ []) → IsFiring
 evals_firing s t n e f = record { owned = e.owned; shaped = e.shaped; fires = e.same.firing ∙ f.fires; live = frame_live t.world n [] e.rest }
 
 evals_owns : (s u : State) (n t : ℕ) → Evals s u (n ∷ []) → owns n t s.world.nodes ≡ true → owns n t u.world.nodes ≡ true
-evals_owns s u n t e own = ap (is_in t) (sym (stem_parts (form_at n u.world.nodes)) ∙ ap parts_found (e.forms n (in_self n [])) ∙ stem_parts (form_at n s.world.nodes)) ∙ own
+evals_owns s u n t e own = stem_owns n t s.world u.world (e.forms n (in_self n [])) own
 
 pub value_firing : (setting : Setting) (n t : ℕ) (s : State) → Fits setting → IsFiring n s → owns n t s.world.nodes ≡ true → IsFiring n (value setting t s).0
 value_firing setting n t s fits f own = evals_firing s (value setting t s).0 n (value_evals setting n t s fits f own) f
 
 pub value_form : (setting : Setting) (n t : ℕ) (s : State) → Fits setting → IsFiring n s → owns n t s.world.nodes ≡ true → stem (form_at n (value setting t s).0.world.nodes) ≡ stem (form_at n s.world.nodes)
 value_form setting n t s fits f own = (value_evals setting n t s fits f own).forms n (in_self n [])
+
+pub value_left_over : (setting : Setting) (n t : ℕ) (s : State) → Fits setting → IsFiring n s → owns n t s.world.nodes ≡ true → (value setting t s).0.world.left_over ≡ s.world.left_over
+value_left_over setting n t s fits f own = (value_evals setting n t s fits f own).same.left_over
+
+pub value_awaited : (setting : Setting) (n t : ℕ) (s : State) → Fits setting → IsFiring n s → owns n t s.world.nodes ≡ true → (value setting t s).0.world.awaited ≡ s.world.awaited
+value_awaited setting n t s fits f own = (value_evals setting n t s fits f own).same.awaited
 
 pub value_outlives : (setting : Setting) (n t : ℕ) (s : State) → Fits setting → IsFiring n s → owns n t s.world.nodes ≡ true → Outlives n t (value setting t s).0.world
 value_outlives setting n t s fits f own = let e = value_evals setting n t s fits f own in fired_outlives n t (value setting t s).0 (evals_firing s (value setting t s).0 n e f) (evals_owns s (value setting t s).0 n t e own)
@@ -103,5 +109,4 @@ pub value_owner_outlives : (setting : Setting) (n tree owner : ℕ) (s : State) 
 value_owner_outlives setting n tree owner s fits f own own_n =
     let u = (value setting tree s).0 in
     let e = value_evals setting n tree s fits f own in
-    let own_then : owns owner n u.world.nodes ≡ true = ap (is_in n) (sym (stem_parts (form_at owner u.world.nodes)) ∙ ap parts_found (e.owner n owner f.fires own_n) ∙ stem_parts (form_at owner s.world.nodes)) ∙ own_n in
-    owner_outlives n owner tree u (evals_firing s u n e f) (evals_owns s u n tree e own) own_then
+    owner_outlives n owner tree u (evals_firing s u n e f) (evals_owns s u n tree e own) (stem_owns owner n s.world u.world (e.owner n owner f.fires own_n) own_n)

@@ -308,15 +308,3 @@ framed_cell w n m fs f y i = elim (in_either m (n ∷ []) fs i) [
   | inl a ↦ subst (λ (z : ℕ). is_cell (form_at z w.nodes) ≡ false) (in_one m n a) (steady_cell (form_at n w.nodes) y)
   | inr b ↦ framed_owner w n m fs f b
 ]
-
-pub reached_evals : (s t : State) (n : ℕ) (fs : List ℕ) → Frames s.world n fs → is_steady (form_at n s.world.nodes) ≡ true → Reached [] [] [] s t → Evals s t (n ∷ fs)
-reached_evals s t n fs f y r =
-    let forms = λ (m : ℕ) (i : is_in m (n ∷ fs) ≡ true). r.stays.forms m (framed_live s.world n m fs f i) (framed_cell s.world n m fs f y i) in
-    record {
-      owned = r.standing;
-      shaped = r.shaped;
-      same = r.stays.same;
-      rest = frames_same s.world t.world n fs r.stays.same.firing r.stays.same.awaited forms f;
-      owner = stays_owner s.world t.world r.stays;
-      forms = forms;
-    }

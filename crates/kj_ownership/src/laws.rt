@@ -96,10 +96,12 @@ pub fn turns_begin_between_calls()
     ensures waits { (name root : ℕ) (s : State) → Kept s → held_at name s.world.names ≡ Some (Promise root) → Rests (silent (held_awaited name root) s) }
 {}
 
-/// While a node's event fires, the steps of its tree leave its form and that of its owner, but for a hub's name and branches, and its event still fires; when the tree was freed after that, the node and its owner live, and the branches that a hub has then.
+/// While a node's event fires, the steps of its tree leave its form and that of its owner, but for a hub's name and branches, what is left over and what is awaited, and its event still fires; when the tree was freed after that, the node and its owner live, and the branches that a hub has then.
 pub fn what_fires_outlives_its_tree()
     ensures fires { (setting : Setting) (n tree : ℕ) (s : State) → Fits setting → IsFiring n s → owns n tree s.world.nodes ≡ true → IsFiring n (value setting tree s).0 }
     ensures form { (setting : Setting) (n tree : ℕ) (s : State) → Fits setting → IsFiring n s → owns n tree s.world.nodes ≡ true → stem (form_at n (value setting tree s).0.world.nodes) ≡ stem (form_at n s.world.nodes) }
+    ensures left_over { (setting : Setting) (n tree : ℕ) (s : State) → Fits setting → IsFiring n s → owns n tree s.world.nodes ≡ true → (value setting tree s).0.world.left_over ≡ s.world.left_over }
+    ensures awaited { (setting : Setting) (n tree : ℕ) (s : State) → Fits setting → IsFiring n s → owns n tree s.world.nodes ≡ true → (value setting tree s).0.world.awaited ≡ s.world.awaited }
     ensures outlives { (setting : Setting) (n tree : ℕ) (s : State) → Fits setting → IsFiring n s → owns n tree s.world.nodes ≡ true → Outlives n tree (value setting tree s).0.world }
     ensures branches { (setting : Setting) (n tree : ℕ) (s : State) → Fits setting → IsFiring n s → owns n tree s.world.nodes ≡ true → BranchesOutlive n tree (value setting tree s).0.world }
     ensures owner_form { (setting : Setting) (n tree owner : ℕ) (s : State) → Fits setting → IsFiring n s → owns n tree s.world.nodes ≡ true → owns owner n s.world.nodes ≡ true → stem (form_at owner (value setting tree s).0.world.nodes) ≡ stem (form_at owner s.world.nodes) }

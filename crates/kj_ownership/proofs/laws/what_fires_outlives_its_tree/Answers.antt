@@ -1,4 +1,4 @@
-use Rattle.kj_ownership.proofs.Outlives.{value_firing, value_form, value_outlives, value_branches, value_owner, value_owner_outlives}
+use Rattle.kj_ownership.proofs.Outlives.{value_firing, value_form, value_left_over, value_awaited, value_outlives, value_branches, value_owner, value_owner_outlives}
 use Rattle.kj_ownership.proofs.laws.what_fires_outlives_its_tree.Goals as goal
 
 pub returns-clause-fires : goal.returns-clause-fires
@@ -6,6 +6,12 @@ returns-clause-fires c = value_firing
 
 pub returns-clause-form : goal.returns-clause-form
 returns-clause-form c = value_form
+
+pub returns-clause-left_over : goal.returns-clause-left_over
+returns-clause-left_over c = value_left_over
+
+pub returns-clause-awaited : goal.returns-clause-awaited
+returns-clause-awaited c = value_awaited
 
 pub returns-clause-outlives : goal.returns-clause-outlives
 returns-clause-outlives c = value_outlives
