@@ -3,7 +3,7 @@ use Rattle.std.proofs.Common.{◌≡◌, inl, ℕ, ◌+◌, ◌≤◌, List, [],
 use Rattle.std.specs.Prelude.{is_some, option_to_list}
 use Rattle.std.proofs.lemmas.Bool.{false≢true}
 use Rattle.kj_base.specs.Record.{Item}
-use Rattle.kj_model.specs.Nodes.{Form, Hub, form_at, parts_found, is_in}
+use Rattle.kj_model.specs.Nodes.{Form, Hub, form_at, is_in}
 use Rattle.kj_model.specs.World.{World, State, Setting, depth_of}
 use Rattle.kj_model.specs.Free.{Holding, usual}
 use Rattle.kj_model.specs.Value.{value, freed}

@@ -27,9 +27,9 @@ use Rattle.kj_ownership.proofs.Moves.{built_standing, built_grows, app_other, li
 use Rattle.kj_ownership.proofs.Changed.{named_standing, unnamed_standing, listened_standing, announced_standing, put_standing, held_hubs}
 use Rattle.kj_ownership.proofs.Closing.{permuted}
 use Rattle.kj_ownership.proofs.Commands.{IsPlain}
-use Rattle.kj_ownership.proofs.Frames.{frames_same, stem_live}
+use Rattle.kj_ownership.proofs.Frames.{stem_live}
 use Rattle.kj_ownership.proofs.Shapes.{empty_suits, SuitsAs, shaped_named, shaped_unnamed, shaped_built, shaped_put}
-use Rattle.kj_ownership.proofs.Evaluates.{Evals, OwnerStays, SameTurn, turn_refl, turn_both, frame_live}
+use Rattle.kj_ownership.proofs.Evaluates.{OwnerStays, SameTurn, turn_refl, turn_both, frame_live}
 
 -- a cell
 abbrev pub is_cell : Option Form → Bool
