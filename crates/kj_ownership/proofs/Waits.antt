@@ -19,6 +19,7 @@ use Rattle.kj_ownership.specs.Owners.{is_live}
 use Rattle.kj_ownership.specs.Standing.{Standing, Owned}
 use Rattle.kj_ownership.specs.Shapes.{OfTree, suits, Shaped}
 use Rattle.kj_ownership.specs.Fits.{Fits}
+use Rattle.kj_ownership.specs.Kept.{Rests}
 use Rattle.kj_model.specs.Falling.{falling}
 use Rattle.kj_model.proofs.Falling.{node_frees}
 use Rattle.kj_model.proofs.Spared.{same_number}
@@ -36,7 +37,7 @@ use Rattle.kj_ownership.proofs.Premises.{name_absent}
 use Rattle.kj_ownership.proofs.Builders.{source_suits}
 use Rattle.kj_ownership.proofs.Walks.{reached_here}
 use Rattle.kj_ownership.proofs.Applied.{commands_keep}
-use Rattle.kj_ownership.proofs.Turns.{Rests, turn_passes, turn_answers}
+use Rattle.kj_ownership.proofs.Turns.{turn_passes, turn_answers}
 use Rattle.kj_ownership.proofs.Lacks.{value_lacks}
 
 -- after a wait nothing is awaited
@@ -74,7 +75,7 @@ awaited_standing a loose loose2 s counts none zero_event st = record {
 one_of : (root : ℕ) (w : World) → suits OfTree (form_at root w.nodes) ≡ true → (p : ℕ) → is_in p (root ∷ []) ≡ true → suits OfTree (form_at p w.nodes) ≡ true
 one_of root w h p i = subst (λ (y : ℕ). suits OfTree (form_at y w.nodes) ≡ true) (in_one p root i) h
 
-held_rests : (name root : ℕ) (s : State) → held_at name s.world.names ≡ Some (Promise root) → s.world.awaited ≡ None → Rests s → Rests (silent (held_awaited name root) s)
+pub held_rests : (name root : ℕ) (s : State) → held_at name s.world.names ≡ Some (Promise root) → s.world.awaited ≡ None → Rests s → Rests (silent (held_awaited name root) s)
 held_rests name root s at waits r =
     let s1 = silent (unnamed name) s in
     let st1 = unnamed_standing name (Promise root) [] [] [] s at r.owned in
