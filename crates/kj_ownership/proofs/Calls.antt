@@ -11,7 +11,7 @@ use Rattle.kj_model.specs.Apply.{Refused, refusal, applied}
 use Rattle.kj_model.specs.Calls.{ask_taken_in, ask_taken, take_ask_of, take_ended_of, take_abandoned_of, Call, CallApply, CallTurn, CallRun, CallWait, CallTakeAsk, CallTakeEnded, CallTakeAbandoned, CallClose, call, turn, run, wait}
 use Rattle.kj_model.specs.Framed.{times, name_numbers}
 use Rattle.kj_ownership.specs.Fits.{Fits}
-use Rattle.kj_ownership.specs.Kept.{Kept, is_spent, TakesSpent, is_open}
+use Rattle.kj_ownership.specs.Kept.{Rests, Kept, is_spent, TakesSpent, is_open}
 use Rattle.kj_model.proofs.Spared.{no_form}
 use Rattle.kj_model.proofs.Members.{in_none}
 use Rattle.kj_model.proofs.Counts.{without_absent}
@@ -20,7 +20,7 @@ use Rattle.kj_ownership.proofs.Reached.{Reached, reached_unnamed, reached_rename
 use Rattle.kj_ownership.proofs.Premises.{allowed}
 use Rattle.kj_ownership.proofs.Walks.{reached_here}
 use Rattle.kj_ownership.proofs.Applied.{command_went}
-use Rattle.kj_ownership.proofs.Turns.{Rests, Passes, turn_passes, run_passes}
+use Rattle.kj_ownership.proofs.Turns.{Passes, turn_passes, run_passes}
 use Rattle.kj_ownership.proofs.Waits.{IsWaited, wait_is}
 
 pub rests_of : (s : State) → Kept s → Rests s

@@ -174,7 +174,7 @@ roots_off ns loose s n fs st fr calm r i r_live ys c = false_by (is_in r (n ∷ 
 
 -- such roots are freed
 pub walks_each : (ns loose : List ℕ) (s : State) (n : ℕ) (fs : List ℕ) (o : Option ℕ) → s.world.firing ≡ o → Standing (ns ++ loose) [] [] s → Shaped s.world → Frames s.world n fs → AreOff ns n s → Walks loose [] s (each_freed (free (Holding (option_to_list o))) ns s) n fs
-walks_each [] loose s n fs o fires st sh f off = record { went = record { standing = st; shaped = sh; same = record { firing = refl; awaited = refl; left_over = refl } }; frames = f; forms = λ m i. refl }
+walks_each [] loose s n fs o fires st sh f off = record { went = record { standing = st; shaped = sh; same = record { firing = refl; awaited = refl; left_over = refl } }; frames = f; owner = λ b q g e. refl; forms = λ m i. refl }
 walks_each (x ∷ xs) loose s n fs o fires st sh f off =
     let a = walks_free x (xs ++ loose) s n fs st sh f (λ r i. off r (in_left r (x ∷ []) xs i)) in
     let t = free (usual s.world) x s in

@@ -28,7 +28,7 @@ use Rattle.kj_ownership.proofs.Flat.{Open, Comes, Goes, node_goes}
 use Rattle.kj_ownership.proofs.Stays.{one_place, places_one, live_after, climbs_stay, hub_unowned}
 use Rattle.kj_ownership.proofs.Climb.{climb_live, climb_up, path_stays}
 use Rattle.kj_ownership.proofs.Commands.{Tended, tended_open, owned_comes, fuel_for, same_form, unnamed_hub}
-use Rattle.kj_ownership.proofs.Frames.{framed_tended, within_more, frames_same, stem_stays}
+use Rattle.kj_ownership.proofs.Frames.{framed_tended, within_more, owner_on, frames_same, stem_stays}
 use Rattle.kj_ownership.proofs.Busy.{goes_down}
 use Rattle.kj_ownership.proofs.Cancels.{wrap_any}
 use Rattle.kj_ownership.proofs.Shapes.{shaped_put, empty_suits}
@@ -167,9 +167,9 @@ walks_wrap x c t s n fs o firing at st sh f off =
     let s2 = wrap_cancelled (Holding gs) x (Some (Wrap c (Tree t))) s in
     let form = Wrap c (Kept cancelled) in
     let differs = λ (m : ℕ) (i : is_in m pn ≡ true). false_by (nat_eq x m) (λ e. both_ways (is_in x pn) (subst (λ (y : ℕ). is_in y pn ≡ true) (same_number x m e) i) x_off) in
-    let forms : (m : ℕ) → is_in m (n ∷ fs) ≡ true → stem (form_at m s2.world.nodes) ≡ stem (form_at m s.world.nodes) = λ m i.
-    (let j = within_more n m fs tn.above both.1 i in
-    ap (λ es. stem (form_at m es)) (wrap_nodes x c s1.world) ∙ ap stem (form_put_other x m form s1.world.nodes (differs m j)) ∙ ap stem (w.freed.forms m) ∙ stem_stays (is_in m ns) (λ b. is_in b ns) m s.world.nodes (form_at m s.world.nodes) (away m j)) in
+    let stems = λ (m : ℕ) (j : is_in m pn ≡ true).
+    ap (λ es. stem (form_at m es)) (wrap_nodes x c s1.world) ∙ ap stem (form_put_other x m form s1.world.nodes (differs m j)) ∙ ap stem (w.freed.forms m) ∙ stem_stays (is_in m ns) (λ b. is_in b ns) m s.world.nodes (form_at m s.world.nodes) (away m j) in
+    let forms : (m : ℕ) → is_in m (n ∷ fs) ≡ true → stem (form_at m s2.world.nodes) ≡ stem (form_at m s.world.nodes) = λ m i. stems m (within_more n m fs tn.above both.1 i) in
     let same = turn_both s.world s1.world s2.world (turn_free_to (Holding (x ∷ gs)) d t s) (wrap_same x c s1.world) in
     let st2 = wrap_any (Some (Wrap c (Tree t))) gs x [] [] s at st in
     let c1 : Climbs s1.world.nodes n tn.above = climbs_stay ns (t ∷ []) (union px pn) s s1 n tn.above w.freed w.goes (away n (in_self n tn.above)) tn.live tn.climbs in
@@ -178,6 +178,7 @@ walks_wrap x c t s n fs o firing at st sh f off =
       record {
         went = record { standing = st2; shaped = wrap_shaped x c t s1.world w.at (shaped_free_to (Holding (x ∷ gs)) d t s sh); same = same };
         frames = frames2;
+        owner = λ b q fires own_b. stems q (owner_on (Holding gs) s.world n fs tn.above b q f both.1 open_n fires own_b);
         forms = forms;
       },
       (λ m m_off ys cy. false_by (is_in m (n ∷ ys)) (λ j. both_ways (is_in m pn) (climb_one [] s2.world n m ys tn.above st2.placed (frame_live s2.world n fs frames2) cy c2 j) (m_off tn.above tn.climbs))),
@@ -185,7 +186,7 @@ walks_wrap x c t s n fs o firing at st sh f off =
     )
 
 walks_still : (s : State) (n : ℕ) (fs : List ℕ) → Owned s → Shaped s.world → Frames s.world n fs → Walks [] [] s s n fs
-walks_still s n fs st sh f = record { went = went_reached [] [] s s (reached_here [] [] [] s st sh); frames = f; forms = λ m i. refl }
+walks_still s n fs st sh f = record { went = went_reached [] [] s s (reached_here [] [] [] s st sh); frames = f; owner = λ b q g e. refl; forms = λ m i. refl }
 
 -- the Wraps of a list, where each that is unsettled is off the climb
 walks_maybe : (p : Option Form) (x : ℕ) (s : State) (n : ℕ) (fs : List ℕ) (o : Option ℕ) → s.world.firing ≡ o → form_at x s.world.nodes ≡ p → Owned s → Shaped s.world → Frames s.world n fs → (is_unsettled_wrap p ≡ true → IsOff x n s)

@@ -96,7 +96,7 @@ step_linked setting (Some action) n link step input s commands firing st sh f y 
     let t = with_item (Run link step input action) s in
     let r = all_applied setting action.commands t in
     let e = all_keep setting action.commands t link (n ∷ []) commands (told_owned s link step input action (frame_live s.world link (n ∷ []) f) st) sh f y in
-    let e2 : Evals s r.0 (link ∷ n ∷ []) = record { owned = e.owned; shaped = e.shaped; same = e.same; rest = e.rest; forms = e.forms } in
+    let e2 : Evals s r.0 (link ∷ n ∷ []) = record { owned = e.owned; shaped = e.shaped; same = e.same; rest = e.rest; owner = e.owner; forms = e.forms } in
     linked_later (Some (ended_if r.1 action.ending true input r.0).1) n s r.0 (ended_if r.1 action.ending true input r.0).0 (evals_less s r.0 link (n ∷ []) e2)
     (ended_if_linked r.1 action.ending input n r.0 (e2.same.firing ∙ firing) e2.owned e2.shaped (rest_of r.0.world link (n ∷ []) e2.rest))
 

@@ -12,7 +12,7 @@ use Rattle.kj_base.specs.Record.{Item, Run, Free}
 use Rattle.kj_model.specs.Nodes.{Entry, Form, Then, Race, Join, Side, Waits, Fired, Keeps, Gone, Hub, form_at, parts_of, parts_found, is_in}
 use Rattle.kj_model.specs.World.{World, State, Setting, depth_of}
 use Rattle.kj_model.specs.Changes.{silent, put, frees_in}
-use Rattle.kj_model.specs.Free.{usual}
+use Rattle.kj_model.specs.Free.{Holding, usual}
 use Rattle.kj_model.specs.Apply.{Refused, apply}
 use Rattle.kj_model.specs.Value.{freed, answered, ended_if, ended, all_applied, rest_applied, with_item, with_stopped, step_passed, chosen, then_valued, then_of, side_valued, side_of, value_side, rest_valued, all_valued, join_valued, winner_valued, value_form, value_to}
 use Rattle.kj_model.specs.Falling.{falling, is_branch_of}
@@ -30,10 +30,10 @@ use Rattle.kj_model.proofs.Falling.{node_frees}
 use Rattle.kj_ownership.proofs.Flat.{live_number}
 use Rattle.kj_model.proofs.Freed.{or_false}
 use Rattle.kj_ownership.proofs.Stays.{in_times, hub_unowned, owns_before}
-use Rattle.kj_ownership.proofs.Commands.{Tended, tree_freed}
+use Rattle.kj_ownership.proofs.Commands.{Tended, tended_open, tree_freed}
 use Rattle.kj_ownership.proofs.Changed.{put_standing}
 use Rattle.kj_ownership.proofs.Climb.{climb_apart}
-use Rattle.kj_ownership.proofs.Frames.{walk_same, framed_tended, stem_of, stem_parts, path_stems, frames_same}
+use Rattle.kj_ownership.proofs.Frames.{walk_same, framed_tended, within_more, fires_in, owner_on, owner_apart, stem_of, stem_parts, climb_stems, path_stems, frames_same}
 
 -- what stands above
 abbrev pub Rest : World → List ℕ → Type 0
@@ -55,26 +55,36 @@ turn_both u v w a b = record { firing = b.firing ∙ a.firing; awaited = b.await
 pub turn_freed : (t : ℕ) (s : State) → SameTurn s.world (freed t s).world
 turn_freed t s = let same = (node_frees (usual s.world) (depth_of s.world) t s).frame.same in record { firing = same.firing; awaited = same.awaited; left_over = same.left_over }
 
+-- the owner of the node that fires keeps its form
+abbrev pub OwnerStays : World → World → Type 0
+OwnerStays w v = (b q : ℕ) → w.firing ≡ Some b → owns q b w.nodes ≡ true → stem (form_at q v.nodes) ≡ stem (form_at q w.nodes)
+
+pub owner_both : (u v w : World) → SameTurn u v → OwnerStays u v → OwnerStays v w → OwnerStays u w
+owner_both u v w same a c b q fires own =
+    let e = a b q fires own in
+    c b q (same.firing ∙ fires) (ap (is_in b) (sym (stem_parts (form_at q v.nodes)) ∙ ap parts_found e ∙ stem_parts (form_at q u.nodes)) ∙ own) ∙ e
+
 -- from one state to a later one, while these nodes are being evaluated
 pub record Evals (s t : State) (fs : List ℕ) : Type 0 where
   pub owned : Owned t
   pub shaped : Shaped t.world
   pub same : SameTurn s.world t.world
   pub rest : Rest t.world fs
+  pub owner : OwnerStays s.world t.world
   pub forms : (m : ℕ) → is_in m fs ≡ true → stem (form_at m t.world.nodes) ≡ stem (form_at m s.world.nodes)
 
 pub evals_none : (s : State) (fs : List ℕ) → Owned s → Shaped s.world → Rest s.world fs → Evals s s fs
-evals_none s fs o w r = record { owned = o; shaped = w; same = turn_refl s.world; rest = r; forms = λ m i. refl }
+evals_none s fs o w r = record { owned = o; shaped = w; same = turn_refl s.world; rest = r; owner = λ b q g e. refl; forms = λ m i. refl }
 
 pub evals_both : (s t u : State) (fs : List ℕ) → Evals s t fs → Evals t u fs → Evals s u fs
-evals_both s t u fs a b = record { owned = b.owned; shaped = b.shaped; same = turn_both s.world t.world u.world a.same b.same; rest = b.rest; forms = λ m i. b.forms m i ∙ a.forms m i }
+evals_both s t u fs a b = record { owned = b.owned; shaped = b.shaped; same = turn_both s.world t.world u.world a.same b.same; rest = b.rest; owner = owner_both s.world t.world u.world a.same a.owner b.owner; forms = λ m i. b.forms m i ∙ a.forms m i }
 
 pub rest_of : (w : World) (n : ℕ) (fs : List ℕ) → Frames w n fs → Rest w fs
 rest_of w n [] f = tt
 rest_of w n (m ∷ ms) f = f.4
 
 pub evals_less : (s t : State) (n : ℕ) (fs : List ℕ) → Evals s t (n ∷ fs) → Evals s t fs
-evals_less s t n fs e = record { owned = e.owned; shaped = e.shaped; same = e.same; rest = rest_of t.world n fs e.rest; forms = λ m i. e.forms m (in_right m (n ∷ []) fs i) }
+evals_less s t n fs e = record { owned = e.owned; shaped = e.shaped; same = e.same; rest = rest_of t.world n fs e.rest; owner = e.owner; forms = λ m i. e.forms m (in_right m (n ∷ []) fs i) }
 
 -- each command that isn't refused keeps it all (the hypothesis)
 abbrev pub CommandsKeep : Setting → Type 0
@@ -179,12 +189,12 @@ frame_live w n (m ∷ ms) f = f.0
 
 -- a step that runs under a node that is being evaluated
 pub step_keeps : (setting : Setting) (a : Option Action) (n step : ℕ) (input : Outcome) (s : State) (fs : List ℕ) → CommandsKeep setting → Owned s → Shaped s.world → Frames s.world n fs → is_steady (form_at n s.world.nodes) ≡ true → Evals s (answered setting a false n step input s).0 (n ∷ fs)
-step_keeps setting None n step input s fs keep o w f y = record { owned = stopped_owned s o; shaped = stopped_shaped s.world w; same = record { firing = refl; awaited = refl; left_over = refl }; rest = frames_same s.world (with_stopped s.world) n fs refl refl (λ m i. refl) f; forms = λ m i. refl }
+step_keeps setting None n step input s fs keep o w f y = record { owned = stopped_owned s o; shaped = stopped_shaped s.world w; same = record { firing = refl; awaited = refl; left_over = refl }; rest = frames_same s.world (with_stopped s.world) n fs refl refl (λ m i. refl) f; owner = λ b q g e. refl; forms = λ m i. refl }
 step_keeps setting (Some action) n step input s fs keep o w f y =
     let t = with_item (Run n step input action) s in
     let r = all_applied setting action.commands t in
     let e = all_keep setting action.commands t n fs keep (told_owned s n step input action (frame_live s.world n fs f) o) w f y in
-    let e2 : Evals s r.0 (n ∷ fs) = record { owned = e.owned; shaped = e.shaped; same = e.same; rest = e.rest; forms = e.forms } in
+    let e2 : Evals s r.0 (n ∷ fs) = record { owned = e.owned; shaped = e.shaped; same = e.same; rest = e.rest; owner = e.owner; forms = e.forms } in
     subst (λ (u : State). Evals s u (n ∷ fs)) (sym (ended_if_same r.1 action.ending input r.0)) e2
 
 passed_keeps : (setting : Setting) (step : Option ℕ) (n : ℕ) (o : Outcome) (s : State) (fs : List ℕ) → CommandsKeep setting → Owned s → Shaped s.world → Frames s.world n fs → is_steady (form_at n s.world.nodes) ≡ true → Evals s (step_passed setting false n step o s).0 (n ∷ fs)
@@ -236,10 +246,18 @@ tree_cleared s n t fs old new o w f at c =
     let owned : Owned (silent (put n new) s1) = put_standing n new old [] [] [] s1 at1 c.new_hub c.old_hub c.branch
     (λ p live. ap (times p) c.none ∙ sym (ap (times p) c.parts ∙ times_other p t (false_by (nat_eq t p) (λ e. both_ways (is_live t s1.world.nodes) (subst (λ (y : ℕ). is_live y s1.world.nodes ≡ true) (same_number t p e) live) tf.went))))
     (λ p. subst (λ (ps : List ℕ). times p ps ≤ times p (parts_of old)) (sym c.none) (omega arith)) tf.standing in
-    (record { owned = owned; shaped = shaped_put n new old s1.world at1 c.suits (shaped_free s t w); same = record { firing = same.firing; awaited = same.awaited; left_over = same.left_over }; rest = rest_of (put n new s1.world) n fs fr; forms = forms }, fr, new_at)
+    (record { owned = owned; shaped = shaped_put n new old s1.world at1 c.suits (shaped_free s t w); same = record { firing = same.firing; awaited = same.awaited; left_over = same.left_over }; rest = rest_of (put n new s1.world) n fs fr; owner = owner both.0 both.1; forms = forms }, fr, new_at)
   where
     is_n : (s1 : State) → form_at n s1.world.nodes ≡ Some old → form_at n (put n new s1.world).nodes ≡ Some new
     is_n s1 h = form_put_same n new old s1.world.nodes h
+
+    owner : (td : Tended (option_to_list s.world.firing) s n) → Within fs td.above → OwnerStays s.world (put n new (freed t s).world)
+    owner td within b q fires own_b =
+        let opens = tended_open [] [] [] (option_to_list s.world.firing) s n o td in
+        let b_on = within_more n b fs td.above within (fires_in s.world n fs b f fires) in
+        let own : owns n t s.world.nodes ≡ true = ap (λ (x : Option Form). is_in t (parts_found x)) at ∙ ap (is_in t) c.parts ∙ in_self t [] in
+        ap stem (form_put_other n q new (freed t s).world.nodes (owner_apart s n fs td.above b q o f within td.live (opens.live b b_on) td.climbs fires own_b))
+        ∙ climb_stems [] [] s n t td o own q (owner_on (Holding (option_to_list s.world.firing)) s.world n fs td.above b q f within opens fires own_b)
 
     off : (td : Tended (option_to_list s.world.firing) s n) → Within fs td.above → is_in n fs ≡ false
     off td within = false_by (is_in n fs) (λ i. both_ways (is_in n td.above) (within n i) (climb_apart [] s.world n td.above o.placed td.live td.climbs).0)

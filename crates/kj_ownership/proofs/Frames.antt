@@ -1,25 +1,26 @@
 -- While steps run, the nodes that are being evaluated stay.
 use Rattle.std.proofs.Common.{◌||◌, ◌≡◌, inl, inr, ℕ, ◌+◌, ◌≤◌, List, [], ◌∷◌, Bool, true, false, Option, None, Some, arith, refl, sym, ap, ◌∙◌, subst}
-use Rattle.std.specs.Prelude.{is_some, option_to_list}
+use Rattle.std.specs.Prelude.{is_some, nat_eq, option_to_list}
 use Rattle.std.proofs.lemmas.Bool.{false≢true}
 use Rattle.kj_model.specs.Nodes.{Entry, Form, Hub, form_at, parts_found, is_in}
 use Rattle.kj_model.specs.World.{World, State, depth_of}
-use Rattle.kj_model.specs.Free.{Holding}
+use Rattle.kj_model.specs.Free.{Guard, Holding}
 use Rattle.kj_model.specs.Value.{freed}
 use Rattle.kj_model.specs.Trees.{none_if}
 use Rattle.kj_model.specs.Falling.{some_staying, falling}
 use Rattle.kj_model.specs.Owned.{name_roots, awaited_roots, tree_roots}
-use Rattle.kj_ownership.specs.Owners.{owns, is_hub_form}
+use Rattle.kj_ownership.specs.Owners.{is_live, owns, is_hub_form}
 use Rattle.kj_model.specs.Framed.{times}
-use Rattle.kj_ownership.specs.Standing.{one_if, owned_times, Standing}
+use Rattle.kj_ownership.specs.Standing.{one_if, owned_times, Climbs, Standing, Owned}
 use Rattle.kj_ownership.specs.Stems.{stem, Begins, is_walked, fires, Frames}
-use Rattle.kj_model.proofs.Spared.{no_form}
+use Rattle.kj_model.proofs.Spared.{no_form, same_number}
 use Rattle.kj_model.proofs.Members.{Within, in_either, in_left, in_right, in_one, in_self, in_none}
-use Rattle.kj_model.proofs.Once.{both_ways}
+use Rattle.kj_model.proofs.Once.{both_ways, false_by}
 use Rattle.kj_model.proofs.Falling.{node_frees}
+use Rattle.kj_ownership.proofs.Flat.{Open}
 use Rattle.kj_ownership.proofs.Stays.{unowned, roots_app, in_times}
 use Rattle.kj_ownership.proofs.Climb.{path_stays}
-use Rattle.kj_ownership.proofs.Commands.{Tended, tended_open, owned_comes, fuel_for}
+use Rattle.kj_ownership.proofs.Commands.{Tended, tended_open, owned_off, owned_comes, fuel_for}
 
 -- the awaited root has no owner, and is no hub
 pub awaited_count : (s : State) (b : ℕ) → is_in b (awaited_roots s.world.awaited) ≡ true → 1 ≤ times b (tree_roots s.world)
@@ -123,14 +124,36 @@ frames_same w v n (m ∷ ms) f a s b =
       frames_same w v m ms f a (λ x i. s x (in_right x (n ∷ []) (m ∷ ms) i)) b.4,
     )
 
+-- the node that fires is one of those that are being evaluated, and its owner is above them
+pub fires_in : (w : World) (n : ℕ) (fs : List ℕ) (b : ℕ) → Frames w n fs → w.firing ≡ Some b → is_in b (n ∷ fs) ≡ true
+fires_in w n [] b (inl f) e = subst (λ (y : ℕ). is_in y (n ∷ []) ≡ true) (some_number (sym f.0 ∙ e)) (in_self n [])
+  where
+    some_number : ◌≡◌ {A = Option ℕ} (Some n) (Some b) → n ≡ b
+    some_number e = cc
+fires_in w n [] b (inr f) e = absurd (no_number (sym f.0 ∙ e))
+  where
+    no_number : ◌≡◌ {A = Option ℕ} None (Some b) → ⊥
+    no_number e = cc
+fires_in w n (m ∷ ms) b f e = in_right b (n ∷ []) (m ∷ ms) (fires_in w m ms b f.4 e)
+
+pub owner_on : (guard : Guard) (w : World) (n : ℕ) (fs above : List ℕ) (b q : ℕ) → Frames w n fs → Within fs above → Open guard w [] [] (n ∷ above) → w.firing ≡ Some b → owns q b w.nodes ≡ true → is_in q (n ∷ above) ≡ true
+owner_on guard w n fs above b q f within opens fires own = opens.up b q (within_more n b fs above within (fires_in w n fs b f fires)) own
+
+-- it isn't the first of them
+pub owner_apart : (s : State) (n : ℕ) (fs above : List ℕ) (b q : ℕ) → Owned s → Frames s.world n fs → Within fs above → is_live n s.world.nodes ≡ true → is_live b s.world.nodes ≡ true → Climbs s.world.nodes n above → s.world.firing ≡ Some b → owns q b s.world.nodes ≡ true → nat_eq n q ≡ false
+owner_apart s n fs above b q st f within live b_live c fires own = false_by (nat_eq n q) (λ e. both_ways (is_in b (n ∷ above)) (within_more n b fs above within (fires_in s.world n fs b f fires)) (owned_off [] [] [] s n b above st live b_live (subst (λ (y : ℕ). owns y b s.world.nodes ≡ true) (same_number n q e) own) c))
+
 -- the stems of the path over the free of a tree of its first node
-pub path_stems : (loose out : List ℕ) (s : State) (n t : ℕ) (fs : List ℕ) → Standing loose out [] s → Frames s.world n fs → owns n t s.world.nodes ≡ true → (m : ℕ) → is_in m (n ∷ fs) ≡ true → stem (form_at m (freed t s).world.nodes) ≡ stem (form_at m s.world.nodes)
-path_stems loose out s n t fs st f own m i =
-    let both = framed_tended out [] loose s n fs st f in
-    let tended = both.0 in
+pub climb_stems : (loose out : List ℕ) (s : State) (n t : ℕ) (tended : Tended (option_to_list s.world.firing) s n) → Standing loose out [] s → owns n t s.world.nodes ≡ true → (m : ℕ) → is_in m (n ∷ tended.above) ≡ true → stem (form_at m (freed t s).world.nodes) ≡ stem (form_at m s.world.nodes)
+climb_stems loose out s n t tended st own m i =
     let gs = option_to_list s.world.firing in
     let opens = tended_open loose out [] gs s n st tended in
     let comes = owned_comes (Holding gs) loose out [] s n t tended.above st tended.live own tended.climbs in
     let d = depth_of s.world in
-    let away = path_stays (Holding gs) d t loose out (n ∷ tended.above) s st opens comes (fuel_for s st.room) m (within_more n m fs tended.above both.1 i) in
+    let away = path_stays (Holding gs) d t loose out (n ∷ tended.above) s st opens comes (fuel_for s st.room) m i in
     ap stem ((node_frees (Holding gs) d t s).forms m) ∙ stem_stays (is_in m (falling (Holding gs) s.world d [] [] t)) (λ b. is_in b (falling (Holding gs) s.world d [] [] t)) m s.world.nodes (form_at m s.world.nodes) away
+
+pub path_stems : (loose out : List ℕ) (s : State) (n t : ℕ) (fs : List ℕ) → Standing loose out [] s → Frames s.world n fs → owns n t s.world.nodes ≡ true → (m : ℕ) → is_in m (n ∷ fs) ≡ true → stem (form_at m (freed t s).world.nodes) ≡ stem (form_at m s.world.nodes)
+path_stems loose out s n t fs st f own m i =
+    let both = framed_tended out [] loose s n fs st f in
+    climb_stems loose out s n t both.0 st own m (within_more n m fs both.0.above both.1 i)

@@ -26,7 +26,7 @@ use Rattle.kj_ownership.proofs.Kept.{standing_frees}
 use Rattle.kj_ownership.proofs.Climb.{path_stays}
 use Rattle.kj_ownership.proofs.Closing.{times_reverse}
 use Rattle.kj_ownership.proofs.Commands.{tended_open, fuel_for}
-use Rattle.kj_ownership.proofs.Frames.{framed_tended, within_more, frames_same, stem_stays}
+use Rattle.kj_ownership.proofs.Frames.{framed_tended, within_more, owner_on, frames_same, stem_stays}
 use Rattle.kj_ownership.proofs.Hubs.{hub_unnamed_standing, reference_standing, hub_comes}
 use Rattle.kj_ownership.proofs.Shapes.{held_named, shaped_put}
 use Rattle.kj_ownership.proofs.Evaluates.{SameTurn, turn_both}
@@ -58,7 +58,7 @@ cleared_went guard group s st sh = cleared_in_went (held_at group s.world.names)
 
 -- while nodes are being evaluated
 walks_none : (s : State) (n : ℕ) (fs : List ℕ) → Owned s → Shaped s.world → Frames s.world n fs → Walks [] [] s s n fs
-walks_none s n fs st sh f = record { went = went_none s st sh; frames = f; forms = λ m i. refl }
+walks_none s n fs st sh f = record { went = went_none s st sh; frames = f; owner = λ b q g e. refl; forms = λ m i. refl }
 
 cleared_in_walks : (o : Option Held) (group : ℕ) (s : State) (n : ℕ) (fs : List ℕ) → held_at group s.world.names ≡ o → Owned s → Shaped s.world → Frames s.world n fs → is_steady (form_at n s.world.nodes) ≡ true → ((f : ℕ) → s.world.firing ≡ Some f → Tells f s (cleared_in (Holding []) group o s) → ⊥) → Walks [] [] s (cleared_in (usual s.world) group o s) n fs
 cleared_in_walks (Some (Group error (task ∷ tasks) empty)) group s n fs at st sh f y calm =
@@ -200,11 +200,12 @@ unless_walks false h c s n fs is at st sh f =
     let t = free (Holding gs) h s in
     let ns = falling (Holding gs) s.world d [] [] h in
     let fr = node_frees (Holding gs) d h s in
-    let forms : (m : ℕ) → is_in m (n ∷ fs) ≡ true → stem (form_at m t.world.nodes) ≡ stem (form_at m s.world.nodes) = λ m i.
-    ap stem (fr.forms m) ∙ stem_stays (is_in m ns) (λ b. is_in b ns) m s.world.nodes (form_at m s.world.nodes) (path_stays (Holding gs) d h [] [] (n ∷ tended.above) s st opens comes fuel m (within_more n m fs tended.above both.1 i)) in
+    let stems = λ (m : ℕ) (i : is_in m (n ∷ tended.above) ≡ true). ap stem (fr.forms m) ∙ stem_stays (is_in m ns) (λ b. is_in b ns) m s.world.nodes (form_at m s.world.nodes) (path_stays (Holding gs) d h [] [] (n ∷ tended.above) s st opens comes fuel m i) in
+    let forms : (m : ℕ) → is_in m (n ∷ fs) ≡ true → stem (form_at m t.world.nodes) ≡ stem (form_at m s.world.nodes) = λ m i. stems m (within_more n m fs tended.above both.1 i) in
     record {
       went = record { standing = standing_frees (Holding gs) d h [] [] [] (n ∷ tended.above) s st opens comes fuel (λ m e. refl) (λ m. omega arith); shaped = shaped_free_to (Holding gs) d h s sh; same = turn_free_to (Holding gs) d h s };
       frames = frames_same s.world t.world n fs fr.frame.same.firing fr.frame.same.awaited forms f;
+      owner = λ b q fires own. stems q (owner_on (Holding gs) s.world n fs tended.above b q f both.1 opens fires own);
       forms = forms;
     }
 

@@ -41,3 +41,5 @@ pub mod Lacks
 pub mod Waits
 pub mod Calls
 pub mod Answers
+pub mod Taking
+pub mod Outlives

@@ -22,14 +22,14 @@ use Rattle.kj_model.proofs.Spared.{same_number, form_put_other}
 use Rattle.kj_model.proofs.Members.{in_either, in_one, in_none}
 use Rattle.kj_model.proofs.Once.{false_by}
 use Rattle.kj_model.proofs.Counts.{times_app, without_times, without_absent}
-use Rattle.kj_ownership.proofs.Stays.{roots_app}
+use Rattle.kj_ownership.proofs.Stays.{roots_app, owner_live}
 use Rattle.kj_ownership.proofs.Moves.{built_standing, built_grows, app_other, live_below, root_out, name_out, branch_out, is_fresh}
 use Rattle.kj_ownership.proofs.Changed.{named_standing, unnamed_standing, listened_standing, announced_standing, put_standing, held_hubs}
 use Rattle.kj_ownership.proofs.Closing.{permuted}
 use Rattle.kj_ownership.proofs.Commands.{IsPlain}
 use Rattle.kj_ownership.proofs.Frames.{frames_same, stem_live}
 use Rattle.kj_ownership.proofs.Shapes.{empty_suits, SuitsAs, shaped_named, shaped_unnamed, shaped_built, shaped_put}
-use Rattle.kj_ownership.proofs.Evaluates.{Evals, SameTurn, turn_refl, turn_both, frame_live}
+use Rattle.kj_ownership.proofs.Evaluates.{Evals, OwnerStays, SameTurn, turn_refl, turn_both, frame_live}
 
 -- a cell
 abbrev pub is_cell : Option Form → Bool
@@ -293,6 +293,9 @@ owner_cell None p i = refl
 owner_cell (Some (Cell o)) p i = absurd (in_none p i)
 owner_cell (Some _) p i = refl
 
+pub stays_owner : (w v : World) → Stays w v → OwnerStays w v
+stays_owner w v s b q fires own = s.forms q (owner_live q b w.nodes own) (owner_cell (form_at q w.nodes) b own)
+
 framed_owner : (w : World) (n m : ℕ) (fs : List ℕ) → Frames w n fs → is_in m fs ≡ true → is_cell (form_at m w.nodes) ≡ false
 framed_owner w n m [] f i = absurd (in_none m i)
 framed_owner w n m (x ∷ xs) f i = elim (in_either m (x ∷ []) xs i) [
@@ -314,5 +317,6 @@ reached_evals s t n fs f y r =
       shaped = r.shaped;
       same = r.stays.same;
       rest = frames_same s.world t.world n fs r.stays.same.firing r.stays.same.awaited forms f;
+      owner = stays_owner s.world t.world r.stays;
       forms = forms;
     }

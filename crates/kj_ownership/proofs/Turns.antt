@@ -12,6 +12,7 @@ use Rattle.kj_model.specs.Calls.{Turned, Fired, Idle, NoMemory, Stopped, rewound
 use Rattle.kj_ownership.specs.Standing.{Owned}
 use Rattle.kj_ownership.specs.Shapes.{Shaped}
 use Rattle.kj_ownership.specs.Fits.{Fits}
+use Rattle.kj_ownership.specs.Kept.{Rests}
 use Rattle.kj_model.proofs.Members.{in_right, in_none}
 use Rattle.kj_ownership.proofs.Changed.{queue_standing}
 use Rattle.kj_ownership.proofs.Applied.{commands_keep}
@@ -22,13 +23,6 @@ use Rattle.kj_ownership.proofs.TaskFires.{task_fires}
 use Rattle.kj_ownership.proofs.RequestFires.{request_fires}
 use Rattle.kj_ownership.proofs.ChainFires.{chain_fires}
 
--- between two turns
-pub record Rests (s : State) : Type 0 where
-  pub owned : Owned s
-  pub shaped : Shaped s.world
-  pub calm : s.world.firing ≡ None
-  pub left_over : s.world.stopped ≡ false → s.world.left_over ≡ []
-
 -- what a part of a call keeps of it
 pub record Passes (s t : State) : Type 0 where
   pub rests : Rests t
@@ -38,7 +32,7 @@ pub passes_both : (s t u : State) → Passes s t → Passes t u → Passes s u
 passes_both s t u a b = record { rests = b.rests; awaited = λ e. b.awaited (a.awaited e) }
 
 -- which event fires
-firing_standing : (o : Option ℕ) (s : State) → Owned s → Owned (silent (with_firing o) s)
+pub firing_standing : (o : Option ℕ) (s : State) → Owned s → Owned (silent (with_firing o) s)
 firing_standing o s st = record {
   placed = record { once = st.placed.once; climbs = st.placed.climbs };
   names = st.names;
@@ -52,14 +46,14 @@ firing_standing o s st = record {
   spots = st.spots;
 }
 
-fires_shaped : (n : ℕ) (w : World) → w.left_over ≡ [] → Shaped w → Shaped (with_firing (Some n) w)
+pub fires_shaped : (n : ℕ) (w : World) → w.left_over ≡ [] → Shaped w → Shaped (with_firing (Some n) w)
 fires_shaped n w left sh = record { winners = sh.winners; parts = sh.parts; names = sh.names; awaited = sh.awaited; detached = sh.detached; left_over = λ p f i. absurd (in_none p (sym (ap (is_in p) left) ∙ i)) }
 
 pub calm_shaped : (w : World) → Shaped w → Shaped (with_firing None w)
 calm_shaped w sh = record { winners = sh.winners; parts = sh.parts; names = sh.names; awaited = sh.awaited; detached = sh.detached; left_over = λ p f i. absurd (false≢true f) }
 
 -- each form
-form_fires : (setting : Setting) (o : Option Form) (n : ℕ) (s : State) → Fits setting → Owned s → Shaped s.world → s.world.firing ≡ Some n → form_at n s.world.nodes ≡ o → Fires s (fire_form setting n o s)
+pub form_fires : (setting : Setting) (o : Option Form) (n : ℕ) (s : State) → Fits setting → Owned s → Shaped s.world → s.world.firing ≡ Some n → form_at n s.world.nodes ≡ o → Fires s (fire_form setting n o s)
 form_fires setting (Some (Chain link)) n s fits st sh firing at = chain_fires setting n link s (commands_keep setting fits) st sh firing at
 form_fires setting (Some (Eager content)) n s fits st sh firing at = fires_went s _ (eager_fires setting n content s fits (commands_keep setting fits) st sh firing at)
 form_fires setting (Some (Wrap c content)) n s fits st sh firing at = fires_went s _ (wrap_fires setting n c content s fits (commands_keep setting fits) st sh firing at)
@@ -102,7 +96,7 @@ taken_in : (b : Bool) (e : ℕ) (q : Events) → is_in e (if b then without_plac
 taken_in true e q i = first_out e q.list i
 taken_in false e q i = i
 
-taken_passes : (s : State) → Rests s → Passes s (silent taken_world s)
+pub taken_passes : (s : State) → Rests s → Passes s (silent taken_world s)
 taken_passes s r = queue_passes (taken s.world.queue) s (taken_keeps s.world.queue r.owned.queue) (λ e. taken_in (nat_lt 0 (length s.world.queue.list)) e s.world.queue) r
 
 -- a turn

@@ -19,6 +19,7 @@ use Rattle.kj_ownership.specs.Owners.{is_live}
 use Rattle.kj_ownership.specs.Standing.{Standing, Owned}
 use Rattle.kj_ownership.specs.Shapes.{OfTree, suits, Shaped}
 use Rattle.kj_ownership.specs.Fits.{Fits}
+use Rattle.kj_ownership.specs.Kept.{Rests}
 use Rattle.kj_model.specs.Falling.{falling}
 use Rattle.kj_model.proofs.Falling.{node_frees}
 use Rattle.kj_model.proofs.Spared.{same_number}
@@ -36,7 +37,7 @@ use Rattle.kj_ownership.proofs.Premises.{name_absent}
 use Rattle.kj_ownership.proofs.Builders.{source_suits}
 use Rattle.kj_ownership.proofs.Walks.{reached_here}
 use Rattle.kj_ownership.proofs.Applied.{commands_keep}
-use Rattle.kj_ownership.proofs.Turns.{Rests, turn_passes, turn_answers}
+use Rattle.kj_ownership.proofs.Turns.{turn_passes, turn_answers}
 use Rattle.kj_ownership.proofs.Lacks.{value_lacks}
 
 -- after a wait nothing is awaited

@@ -22,10 +22,10 @@ use Rattle.kj_ownership.proofs.Stays.{one_place, places_one, live_after, owner_l
 use Rattle.kj_ownership.proofs.Kept.{standing_frees}
 use Rattle.kj_ownership.proofs.Climb.{path_stays}
 use Rattle.kj_ownership.proofs.Commands.{tended_open, loose_comes, fuel_for, head_count, free_loose}
-use Rattle.kj_ownership.proofs.Frames.{framed_tended, within_more, frames_same, stem_stays}
+use Rattle.kj_ownership.proofs.Frames.{framed_tended, within_more, owner_on, frames_same, stem_stays}
 use Rattle.kj_ownership.proofs.Shapes.{shaped_freed}
-use Rattle.kj_ownership.proofs.Evaluates.{Evals, SameTurn, turn_both, steady_same}
-use Rattle.kj_ownership.proofs.Reached.{Reached, reached_renamed, reached_settled, framed_live, framed_cell, stays_refl}
+use Rattle.kj_ownership.proofs.Evaluates.{Evals, OwnerStays, SameTurn, turn_both, owner_both, steady_same}
+use Rattle.kj_ownership.proofs.Reached.{Reached, reached_renamed, reached_settled, framed_live, framed_cell, stays_refl, stays_owner}
 
 -- a command with none behind it
 pub reached_here : (loose out lone : List ℕ) (s : State) → Standing loose out lone s → Shaped s.world → Reached loose out lone s s
@@ -79,18 +79,19 @@ empty_now_reached group loose s t r = emptied_reached (held_at group t.world.nam
 pub record Walks (loose out : List ℕ) (s t : State) (n : ℕ) (fs : List ℕ) : Type 0 where
   pub went : Went loose out s t
   pub frames : Frames t.world n fs
+  pub owner : OwnerStays s.world t.world
   pub forms : (m : ℕ) → is_in m (n ∷ fs) ≡ true → stem (form_at m t.world.nodes) ≡ stem (form_at m s.world.nodes)
 
 pub walks_both : (l1 o1 l2 o2 : List ℕ) (s t u : State) (n : ℕ) (fs : List ℕ) → Walks l1 o1 s t n fs → Walks l2 o2 t u n fs → Walks l2 o2 s u n fs
-walks_both l1 o1 l2 o2 s t u n fs a b = record { went = went_both l1 o1 l2 o2 s t u a.went b.went; frames = b.frames; forms = λ m i. b.forms m i ∙ a.forms m i }
+walks_both l1 o1 l2 o2 s t u n fs a b = record { went = went_both l1 o1 l2 o2 s t u a.went b.went; frames = b.frames; owner = owner_both s.world t.world u.world a.went.same a.owner b.owner; forms = λ m i. b.forms m i ∙ a.forms m i }
 
 pub walks_reached : (loose out : List ℕ) (s t : State) (n : ℕ) (fs : List ℕ) → Frames s.world n fs → is_steady (form_at n s.world.nodes) ≡ true → Reached loose out [] s t → Walks loose out s t n fs
 walks_reached loose out s t n fs f y r =
     let forms = λ (m : ℕ) (i : is_in m (n ∷ fs) ≡ true). r.stays.forms m (framed_live s.world n m fs f i) (framed_cell s.world n m fs f y i) in
-    record { went = went_reached loose out s t r; frames = frames_same s.world t.world n fs r.stays.same.firing r.stays.same.awaited forms f; forms = forms }
+    record { went = went_reached loose out s t r; frames = frames_same s.world t.world n fs r.stays.same.firing r.stays.same.awaited forms f; owner = stays_owner s.world t.world r.stays; forms = forms }
 
 pub walks_evals : (s t : State) (n : ℕ) (fs : List ℕ) → Walks [] [] s t n fs → Evals s t (n ∷ fs)
-walks_evals s t n fs w = record { owned = w.went.standing; shaped = w.went.shaped; same = w.went.same; rest = w.frames; forms = w.forms }
+walks_evals s t n fs w = record { owned = w.went.standing; shaped = w.went.shaped; same = w.went.same; rest = w.frames; owner = w.owner; forms = w.forms }
 
 pub walks_steady : (loose out : List ℕ) (s t : State) (n : ℕ) (fs : List ℕ) → Walks loose out s t n fs → is_steady (form_at n s.world.nodes) ≡ true → is_steady (form_at n t.world.nodes) ≡ true
 walks_steady loose out s t n fs w y = steady_same (form_at n s.world.nodes) (form_at n t.world.nodes) (w.forms n (in_self n fs)) y
@@ -135,8 +136,8 @@ walks_free r loose s n fs st sh f off =
     let ns = falling (Holding gs) s.world d [] [] r in
     let fr = node_frees (Holding gs) d r s in
     let away = λ (m : ℕ) (i : is_in m (n ∷ tended.above) ≡ true). path_stays (Holding gs) d r (r ∷ loose) [] (n ∷ tended.above) s st opens comes fuel m i in
-    let forms : (m : ℕ) → is_in m (n ∷ fs) ≡ true → stem (form_at m t.world.nodes) ≡ stem (form_at m s.world.nodes) = λ m i.
-    ap stem (fr.forms m) ∙ stem_stays (is_in m ns) (λ b. is_in b ns) m s.world.nodes (form_at m s.world.nodes) (away m (within_more n m fs tended.above both.1 i)) in
+    let stems = λ (m : ℕ) (i : is_in m (n ∷ tended.above) ≡ true). ap stem (fr.forms m) ∙ stem_stays (is_in m ns) (λ b. is_in b ns) m s.world.nodes (form_at m s.world.nodes) (away m i) in
+    let forms : (m : ℕ) → is_in m (n ∷ fs) ≡ true → stem (form_at m t.world.nodes) ≡ stem (form_at m s.world.nodes) = λ m i. stems m (within_more n m fs tended.above both.1 i) in
     let st2 = standing_frees (Holding gs) d r (r ∷ loose) loose [] (n ∷ tended.above) s st opens comes fuel (λ m e. head_count m r (times m loose) e) (λ m. omega arith) in
     let goes = node_goes (Holding gs) s.world d (places_one (r ∷ loose) [] s.world st.placed st.hubs) [] [] (n ∷ tended.above) r opens comes (omega (arith, fuel)) in
     let climbs2 : Climbs t.world.nodes n tended.above = climbs_stay ns (r ∷ []) (n ∷ tended.above) s t n tended.above fr goes (away n (in_self n tended.above)) tended.live tended.climbs in
@@ -144,6 +145,7 @@ walks_free r loose s n fs st sh f off =
       record {
         went = record { standing = st2; shaped = shaped_free_to (Holding gs) d r s sh; same = turn_free_to (Holding gs) d r s };
         frames = frames_same s.world t.world n fs fr.frame.same.firing fr.frame.same.awaited forms f;
+        owner = λ b q fires own. stems q (owner_on (Holding gs) s.world n fs tended.above b q f both.1 opens fires own);
         forms = forms;
       },
       λ x x_off m i live ys c. false_by (is_in m (n ∷ ys)) (λ j. both_ways (is_in m (n ∷ tended.above)) (climb_one loose t.world n m ys tended.above st2.placed live2 c climbs2 j) (x_off m i (live_before ns s t m fr live).1 tended.above tended.climbs)),

@@ -5,6 +5,13 @@ use Rattle.kj_model.specs.Calls.{Call, CallTakeEnded, CallTakeAbandoned, CallClo
 use Rattle.kj_ownership.specs.Standing.{Owned}
 use Rattle.kj_ownership.specs.Shapes.{Shaped}
 
+-- between two turns no event fires, and nothing is left over while the loop runs
+pub record Rests (s : State) : Type 0 where
+  pub owned : Owned s
+  pub shaped : Shaped s.world
+  pub calm : s.world.firing ≡ None
+  pub left_over : s.world.stopped ≡ false → s.world.left_over ≡ []
+
 -- between two calls no event fires and no tree is awaited, and nothing is left over while the loop runs
 pub record Kept (s : State) : Type 0 where
   pub owned : Owned s

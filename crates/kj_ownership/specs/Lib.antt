@@ -4,3 +4,4 @@ pub mod Stems
 pub mod Shapes
 pub mod Fits
 pub mod Kept
+pub mod Firing

@@ -3,23 +3,27 @@ ghost use Rattle.kj_base.specs.Commands.{Command, Drop, Stop};
 ghost use Rattle.kj_base.specs.Places.{counts};
 ghost use Rattle.kj_base.specs.declared.numbers.Limits.{Limits};
 ghost use Rattle.kj_model.specs.Apply.{apply, is_full, names_after, rows, would_free};
-ghost use Rattle.kj_model.specs.Calls.{Call, call, close, hubs_of};
-ghost use Rattle.kj_model.specs.Changes.{frees_in, named, unnamed};
+ghost use Rattle.kj_base.specs.Queue.{head_of};
+ghost use Rattle.kj_model.specs.Calls.{Call, call, close, hubs_of, turn};
+ghost use Rattle.kj_model.specs.Changes.{frees_in, named, silent, unnamed};
 ghost use Rattle.kj_model.specs.Falling.{falling};
+ghost use Rattle.kj_model.specs.Fire.{fire_form};
 ghost use Rattle.kj_model.specs.Framed.{times};
 ghost use Rattle.kj_model.specs.Free.{Guard, Holding, free};
 ghost use Rattle.kj_model.specs.Nodes.{form_at, is_in};
 ghost use Rattle.kj_model.specs.Owned.{IsInOrder, numbers, tree_roots};
 ghost use Rattle.kj_model.specs.Places.{table_fits};
 ghost use Rattle.kj_model.specs.Trees.{tree_numbers};
+ghost use Rattle.kj_model.specs.Value.{value};
 ghost use Rattle.kj_model.specs.World.{Promise, RequestOf, Setting, State, depth_of, held_at, new_state};
+ghost use Rattle.kj_ownership.specs.Firing.{BranchesOutlive, IsFiring, Outlives, event_ended, event_taken};
 ghost use Rattle.kj_ownership.specs.Fits.{Fits};
-ghost use Rattle.kj_ownership.specs.Kept.{Kept, TakesSpent, is_open};
-ghost use Rattle.kj_ownership.specs.Owners.{is_live};
+ghost use Rattle.kj_ownership.specs.Kept.{Kept, Rests, TakesSpent, is_open};
+ghost use Rattle.kj_ownership.specs.Owners.{is_live, owns};
 ghost use Rattle.kj_ownership.specs.Shapes.{Shaped};
 ghost use Rattle.kj_ownership.specs.Standing.{Owned, Standing, one_if};
 ghost use Rattle.kj_ownership.specs.Stems.{Frames, is_steady, stem};
-ghost use Rattle.std.specs.Prelude.{[], Bool, None, Some, drop, false, flat_map, length, nat_lt, true, ℕ, List, ◌&&◌, ◌*◌, ◌++◌, ◌+◌, ◌^◌, ◌∷◌, ◌≡◌, ◌≤◌};
+ghost use Rattle.std.specs.Prelude.{[], Bool, None, Some, drop, false, flat_map, length, nat_lt, true, ℕ, List, ◌&&◌, ◌*◌, ◌++◌, ◌+◌, ◌^◌, ◌<◌, ◌∷◌, ◌≡◌, ◌≤◌};
 
 /// A new loop keeps what loops keep between calls, and so does each call that doesn't close it, where the store takes no more nodes than it has slots, and a taking call frees the name of an ended request or of an ask's cell.
 pub fn calls_keep_worlds()
@@ -75,4 +79,22 @@ pub fn live_nodes_are_few()
 /// Over the plain table, where each tree has at most so many nodes, and the slots are enough for as many trees and the names for the command's, no command is refused as full.
 pub fn no_command_is_full()
     ensures { (setting : Setting) (c : Command) (s : State) (most : ℕ) → setting.fits ≡ table_fits → Owned s → ((root : ℕ) → is_in root (tree_roots s.world ++ hubs_of s.world.nodes) ≡ true → length (tree_numbers (depth_of s.world) s.world.nodes root) ≤ most) → length (tree_roots s.world ++ hubs_of s.world.nodes) * most + counts (rows c s.world) ≤ s.world.limits.slots → names_after c s.world ≤ s.world.limits.names → s.world.next ≤ 2 ^ 63 → is_full setting c s.world ≡ false }
+{}
+
+/// Between two turns of a loop that runs, the first event of the queue may fire, where it is a node's: the node lives. What its event does leads back to where the next turn may begin; nothing is awaited then that wasn't before.
+pub fn events_fire_and_end()
+    ensures taken { (n : ℕ) (s : State) → Rests s → s.world.stopped ≡ false → head_of s.world.queue ≡ Some n → 0 < n → IsFiring n (silent (event_taken n) s) }
+    ensures ended { (setting : Setting) (n : ℕ) (s : State) → Fits setting → IsFiring n s → s.world.left_over ≡ [] → Rests (silent event_ended (fire_form setting n (form_at n s.world.nodes) s)) }
+    ensures unawaited { (setting : Setting) (n : ℕ) (s : State) → Fits setting → IsFiring n s → s.world.awaited ≡ None → (fire_form setting n (form_at n s.world.nodes) s).world.awaited ≡ None }
+    ensures turned { (setting : Setting) (s : State) → Fits setting → Rests s → Rests (turn setting s).0 }
+{}
+
+/// While a node's event fires, the steps of its tree leave its form and that of its owner, but for a hub's name and branches, and its event still fires; when the tree was freed after that, the node and its owner live, and the branches that a hub has then.
+pub fn what_fires_outlives_its_tree()
+    ensures fires { (setting : Setting) (n tree : ℕ) (s : State) → Fits setting → IsFiring n s → owns n tree s.world.nodes ≡ true → IsFiring n (value setting tree s).0 }
+    ensures form { (setting : Setting) (n tree : ℕ) (s : State) → Fits setting → IsFiring n s → owns n tree s.world.nodes ≡ true → stem (form_at n (value setting tree s).0.world.nodes) ≡ stem (form_at n s.world.nodes) }
+    ensures outlives { (setting : Setting) (n tree : ℕ) (s : State) → Fits setting → IsFiring n s → owns n tree s.world.nodes ≡ true → Outlives n tree (value setting tree s).0.world }
+    ensures branches { (setting : Setting) (n tree : ℕ) (s : State) → Fits setting → IsFiring n s → owns n tree s.world.nodes ≡ true → BranchesOutlive n tree (value setting tree s).0.world }
+    ensures owner_form { (setting : Setting) (n tree owner : ℕ) (s : State) → Fits setting → IsFiring n s → owns n tree s.world.nodes ≡ true → owns owner n s.world.nodes ≡ true → stem (form_at owner (value setting tree s).0.world.nodes) ≡ stem (form_at owner s.world.nodes) }
+    ensures owner_outlives { (setting : Setting) (n tree owner : ℕ) (s : State) → Fits setting → IsFiring n s → owns n tree s.world.nodes ≡ true → owns owner n s.world.nodes ≡ true → Outlives owner tree (value setting tree s).0.world }
 {}
