@@ -34,15 +34,15 @@ use Rattle.kj_ownership.proofs.Firing.{Fires, fires_went, evals_went}
 use Rattle.kj_ownership.proofs.Placing.{shaped_replaced, chain_place}
 
 -- the promise that a step gave: its tree stands nowhere, and the Chain isn't in it
-record IsTaken (n root : ℕ) (s t : State) : Type 0 where
-  standing : Standing (root ∷ []) [] [] t
-  shaped : Shaped t.world
-  same : SameTurn s.world t.world
-  at : stem (form_at n t.world.nodes) ≡ stem (form_at n s.world.nodes)
-  tree : suits OfTree (form_at root t.world.nodes) ≡ true
-  apart : (ys : List ℕ) → Climbs t.world.nodes n ys → is_in root (n ∷ ys) ≡ false
+pub record IsTaken (n root : ℕ) (s t : State) : Type 0 where
+  pub standing : Standing (root ∷ []) [] [] t
+  pub shaped : Shaped t.world
+  pub same : SameTurn s.world t.world
+  pub at : stem (form_at n t.world.nodes) ≡ stem (form_at n s.world.nodes)
+  pub tree : suits OfTree (form_at root t.world.nodes) ≡ true
+  pub apart : (ys : List ℕ) → Climbs t.world.nodes n ys → is_in root (n ∷ ys) ≡ false
 
-abbrev Linked : ℕ → State → Option Given → State → Type 0
+abbrev pub Linked : ℕ → State → Option Given → State → Type 0
 Linked n s None t = Evals s t (n ∷ [])
 Linked n s (Some (Gave o)) t = Evals s t (n ∷ [])
 Linked n s (Some (Took root)) t = IsTaken n root s t
@@ -112,7 +112,7 @@ valued_linked setting n link t v e (Some o) s commands firing st sh f at =
     let p = passed_linked setting (chosen v e o) n link o s2 commands (c.0.same.firing ∙ firing) c.0.owned c.0.shaped c.1 (ap is_steady c.2) in
     linked_later (step_passed setting true link (chosen v e o) o s2).1 n s s2 (step_passed setting true link (chosen v e o) o s2).0 c.0 p
 
-then_linked : (setting : Setting) (n link : ℕ) (o : Option Form) (s : State) → CommandsKeep setting → s.world.firing ≡ Some n → Owned s → Shaped s.world → Frames s.world n [] → owns n link s.world.nodes ≡ true → form_at link s.world.nodes ≡ o → Linked n s (then_of setting (value setting) true link o s).1 (then_of setting (value setting) true link o s).0
+pub then_linked : (setting : Setting) (n link : ℕ) (o : Option Form) (s : State) → CommandsKeep setting → s.world.firing ≡ Some n → Owned s → Shaped s.world → Frames s.world n [] → owns n link s.world.nodes ≡ true → form_at link s.world.nodes ≡ o → Linked n s (then_of setting (value setting) true link o s).1 (then_of setting (value setting) true link o s).0
 then_linked setting n link (Some (Then v e (Some t))) s commands firing st sh f own at =
     let frames = fired_frames s n link st firing (frame_live s.world n [] f) own (ap is_some at) in
     let r = value setting t s in

@@ -146,6 +146,7 @@ loose_below root loose s st = decide (nat_lt root s.world.next) refl
 
 -- the Chain gives its place to the promise
 pub record ChainTook (n link root : ℕ) (s : State) : Type 0 where
+  pub stays : is_in n (falling (usual s.world) s.world (depth_of s.world) [] [] link) ≡ false
   pub owned : Owned (chain_ended n link (Some (Took root)) s)
   pub at : form_at n (listened root (replaced n root (freed link s).world)).nodes ≡ Some (Chain link)
 
@@ -188,6 +189,7 @@ chain_took n link root s st fires_n at apart place =
     let same = listened_nodes root s2.world in
     let at3 : form_at n s3.world.nodes ≡ Some (Chain link) = ap (form_at n) same ∙ form_renamed n root n s1.world.nodes ∙ ap (some_renamed n root) at1 in
     record {
+      stays = n_out;
       owned = gone_standing n [] [] s3 (λ m. ap (is_branch_of m) at3) (ap is_some at3)
           (λ q o. ap (is_live q) same ∙ ap is_some (form_renamed n root q s1.world.nodes) ∙ live_renamed n root (form_at q s1.world.nodes) ∙ can.empty q (ap (λ (x : Option Form). is_in q (parts_found x)) at1 ∙ (sym (ap (λ (x : Option Form). is_in q (parts_found x)) at3) ∙ o)))
           st3;

@@ -43,3 +43,5 @@ pub mod Calls
 pub mod Answers
 pub mod Taking
 pub mod Outlives
+pub mod Giving
+pub mod Winning

@@ -8,7 +8,7 @@ use Rattle.kj_model.specs.Nodes.{Entry, Form, Stage, Waits, Fired, Keeps, Gone, 
 use Rattle.kj_model.specs.World.{State, Setting, depth_of}
 use Rattle.kj_model.specs.Changes.{silent, put, frees_in}
 use Rattle.kj_model.specs.Listening.{announced, join_ready}
-use Rattle.kj_model.specs.Free.{Holding}
+use Rattle.kj_model.specs.Free.{Holding, usual}
 use Rattle.kj_model.specs.Value.{freed}
 use Rattle.kj_model.specs.Fire.{other_side, tree_freed, race_won, announced_if, all_fired, fast_announced, side_fired_under, side_fired_by, side_fired}
 use Rattle.kj_model.specs.Falling.{falling, is_branch_of}
@@ -18,6 +18,7 @@ use Rattle.kj_ownership.specs.Owners.{is_live, owns, is_hub_form}
 use Rattle.kj_ownership.specs.Standing.{one_if, owned_times, IsRecorded, Owned}
 use Rattle.kj_ownership.specs.Shapes.{Kind, OfSide, suits, part_kind, Shaped}
 use Rattle.kj_ownership.specs.Fits.{Fits}
+use Rattle.kj_ownership.specs.Firing.{race_decided, loser}
 use Rattle.kj_model.proofs.Spared.{same_number, form_put_same, form_put_other}
 use Rattle.kj_model.proofs.Members.{in_self, in_right}
 use Rattle.kj_model.proofs.Once.{both_ways, false_by}
@@ -76,17 +77,20 @@ found_form p e (x ∷ xs) apart h = more (p x) refl h (found_form p e xs (λ m. 
         rest : p x ≡ false → find p (x ∷ xs) ≡ Some e → find p xs ≡ Some e
         rest q h = grind arith
 
-numbers_apart : (s : State) → IsRecorded s → (m : ℕ) → times m (numbers s.world.nodes) ≤ 1
+pub numbers_apart : (s : State) → IsRecorded s → (m : ℕ) → times m (numbers s.world.nodes) ≤ 1
 numbers_apart s rec m = most (times m (numbers s.world.nodes)) (times m (frees_in s.past)) _ (rec m)
   where
     most : (a r : ℕ) (b : Bool) → a + r ≡ one_if b → a ≤ 1
     most a r true e = omega (arith, e)
     most a r false e = omega (arith, e)
 
+pub owner_found : (n : ℕ) (e : Entry) (nodes : List Entry) → ((m : ℕ) → times m (numbers nodes) ≤ 1) → owner_of n nodes ≡ Some e → (form_at e.number nodes ≡ Some e.form) × (owns e.number n nodes ≡ true)
+owner_found n e nodes apart h =
+    let at = found_form (λ (x : Entry). is_in n (parts_of x.form)) e nodes apart h in
+    (at.0, ap (λ (o : Option Form). is_in n (parts_found o)) at.0 ∙ found_is (λ (x : Entry). is_in n (parts_of x.form)) e nodes h)
+
 pub owner_is : (n : ℕ) (e : Entry) (s : State) → IsRecorded s → owner_of n s.world.nodes ≡ Some e → (form_at e.number s.world.nodes ≡ Some e.form) × (owns e.number n s.world.nodes ≡ true)
-owner_is n e s rec h =
-    let at = found_form (λ (x : Entry). is_in n (parts_of x.form)) e s.world.nodes (numbers_apart s rec) h in
-    (at.0, ap (λ (o : Option Form). is_in n (parts_found o)) at.0 ∙ found_is (λ (x : Entry). is_in n (parts_of x.form)) e s.world.nodes h)
+owner_is n e s rec h = owner_found n e s.world.nodes (numbers_apart s rec) h
 
 -- one form in place of another that owns the same
 pub went_put : (n : ℕ) (form old : Form) (s : State) → form_at n s.world.nodes ≡ Some old → is_hub_form (Some form) ≡ false → is_hub_form (Some old) ≡ false → ((h : ℕ) → is_branch_of h (Some form) ≡ is_branch_of h (Some old)) → parts_of form ≡ parts_of old → SuitsAs old form → Owned s → Shaped s.world → Went [] [] s (silent (put n form) s)
@@ -147,12 +151,13 @@ other_apart s race left right side winner true e at live st = false_by (nat_eq s
     clash d a b c x y = omega (arith, x, y)
 
 -- the other Side: its tree goes, while the climb of the one that fires stays
-record OtherFreed (other t : ℕ) (s u : State) : Type 0 where
-  went : Went [] [] s u
-  at : form_at other u.world.nodes ≡ form_at other s.world.nodes
-  dead : is_live t u.world.nodes ≡ false
+pub record OtherFreed (race other t : ℕ) (s u : State) : Type 0 where
+  pub went : Went [] [] s u
+  pub at : form_at other u.world.nodes ≡ form_at other s.world.nodes
+  pub dead : is_live t u.world.nodes ≡ false
+  pub stays : is_in race (falling (usual s.world) s.world (depth_of s.world) [] [] t) ≡ false
 
-other_freed : (race side other t : ℕ) (form : Form) (s : State) → Owned s → Shaped s.world → s.world.firing ≡ Some side → owns race side s.world.nodes ≡ true → owns race other s.world.nodes ≡ true → is_live side s.world.nodes ≡ true → nat_eq side other ≡ false → form_at other s.world.nodes ≡ Some form → is_hub_form (Some form) ≡ false → owns other t s.world.nodes ≡ true → OtherFreed other t s (freed t s)
+pub other_freed : (race side other t : ℕ) (form : Form) (s : State) → Owned s → Shaped s.world → s.world.firing ≡ Some side → owns race side s.world.nodes ≡ true → owns race other s.world.nodes ≡ true → is_live side s.world.nodes ≡ true → nat_eq side other ≡ false → form_at other s.world.nodes ≡ Some form → is_hub_form (Some form) ≡ false → owns other t s.world.nodes ≡ true → OtherFreed race other t s (freed t s)
 other_freed race side other t form s st sh firing own own_other live d at plain own_t =
     let w = s.world in
     let gs = option_to_list w.firing in
@@ -177,11 +182,12 @@ other_freed race side other t form s st sh firing own own_other live d at plain 
     let fuel = fuel_for s st.room in
     let ns = falling (Holding gs) w dp [] [] t in
     let fr = node_frees (Holding gs) dp t s in
-    let stays = path_stays (Holding gs) dp t [] [] (other ∷ side ∷ race ∷ cr.0) s st wide t_comes fuel other (in_self other (side ∷ race ∷ cr.0)) in
+    let away = path_stays (Holding gs) dp t [] [] (other ∷ side ∷ race ∷ cr.0) s st wide t_comes fuel in
     record {
       went = record { standing = standing_frees (Holding gs) dp t [] [] [] (other ∷ side ∷ race ∷ cr.0) s st wide t_comes fuel (λ m e. refl) (λ m. omega arith); shaped = shaped_free s t sh; same = turn_freed t s };
-      at = fr.forms other ∙ same_form (is_in other ns) (λ b. is_in b ns) other w.nodes (form_at other w.nodes) form stays at plain ∙ sym at;
+      at = fr.forms other ∙ same_form (is_in other ns) (λ b. is_in b ns) other w.nodes (form_at other w.nodes) form (away other (in_self other (side ∷ race ∷ cr.0))) at plain ∙ sym at;
       dead = root_goes (Holding gs) dp t [] [] (other ∷ side ∷ race ∷ cr.0) s st wide t_comes fuel;
+      stays = away race (in_right race (other ∷ side ∷ []) (race ∷ cr.0) (in_self race cr.0));
     }
 
 times_other : (p t : ℕ) → nat_eq t p ≡ false → times p (t ∷ []) ≡ 0
@@ -246,12 +252,23 @@ race_suits left right side i = record {
     winner_in other (Some (Race l r (Some x))) = x
     winner_in other o = other
 
-race_went : (race left right side t : ℕ) (s : State) → Owned s → Shaped s.world → s.world.firing ≡ Some side → form_at race s.world.nodes ≡ Some (Race left right None) → owns race side s.world.nodes ≡ true → form_at side s.world.nodes ≡ Some (Side (Waits t)) → Went [] [] s (race_won race left right side (other_side (left == side) left right) t s)
-race_went race left right side t s st sh firing at own side_at =
-    let other = other_side (left == side) left right in
+-- the first Side of a Race has fired
+pub record IsDecided (race left right side t : ℕ) (s u : State) : Type 0 where
+  pub went : Went [] [] s u
+  pub at : form_at race u.world.nodes ≡ Some (Race left right (Some side))
+  pub owns_side : owns race side u.world.nodes ≡ true
+  pub owns_other : owns race (loser left right side) u.world.nodes ≡ true
+  pub side_at : form_at side u.world.nodes ≡ Some (Side (Fired t))
+  pub suit : suits OfSide (form_at (loser left right side) s.world.nodes) ≡ true
+  pub other_at : form_at (loser left right side) u.world.nodes ≡ form_at (loser left right side) s.world.nodes
+  pub apart : nat_eq side (loser left right side) ≡ false
+  pub race_apart : nat_eq race (loser left right side) ≡ false
+
+pub is_decided : (race left right side t : ℕ) (s : State) → Owned s → Shaped s.world → form_at race s.world.nodes ≡ Some (Race left right None) → owns race side s.world.nodes ≡ true → form_at side s.world.nodes ≡ Some (Side (Waits t)) → IsDecided race left right side t s (silent (race_decided race left right side t) s)
+is_decided race left right side t s st sh at own side_at =
+    let other = loser left right side in
     let side_live : is_live side s.world.nodes ≡ true = ap is_some side_at in
     let side_in : is_in side (left ∷ right ∷ []) ≡ true = sym (ap (λ (o : Option Form). is_in side (parts_found o)) at) ∙ own in
-    let d = other_apart s race left right side None (left == side) refl at side_live st in
     let race_side : nat_eq side race ≡ false = false_by (nat_eq side race) (λ e. false≢true (sym (ap is_race side_at) ∙ ap is_race (subst (λ (y : ℕ). form_at y s.world.nodes ≡ Some (Race left right None)) (same_number side race e) at))) in
     let a = side_fired_went side t s side_at st sh in
     let s1 = silent (put side (Side (Fired t))) s in
@@ -259,16 +276,21 @@ race_went race left right side t s st sh firing at own side_at =
     let b = went_put race (Race left right (Some side)) (Race left right None) s1 at1 refl refl (λ h. refl) refl (race_suits left right side side_in) a.standing a.shaped in
     let s2 = silent (put race (Race left right (Some side))) s1 in
     let at2 : form_at race s2.world.nodes ≡ Some (Race left right (Some side)) = form_put_same race (Race left right (Some side)) (Race left right None) s1.world.nodes at1 in
-    let own_other : owns race other s2.world.nodes ≡ true = ap (λ (o : Option Form). is_in other (parts_found o)) at2 ∙ other_in (left == side) left right in
-    let own2 : owns race side s2.world.nodes ≡ true = ap (λ (o : Option Form). is_in side (parts_found o)) at2 ∙ side_in in
-    let side2 : form_at side s2.world.nodes ≡ Some (Side (Fired t)) = form_put_other race side (Race left right (Some side)) s1.world.nodes (swap side race race_side) ∙ form_put_same side (Side (Fired t)) (Side (Waits t)) s.world.nodes side_at in
     let own_before : owns race other s.world.nodes ≡ true = ap (λ (o : Option Form). is_in other (parts_found o)) at ∙ other_in (left == side) left right in
     let suit : suits OfSide (form_at other s.world.nodes) ≡ true = subst (λ (k : Kind). suits k (form_at other s.world.nodes) ≡ true) (ap part_kind at) (sh.parts race other own_before) in
     let race_other : nat_eq race other ≡ false = false_by (nat_eq race other) (λ e. false≢true (ap (suits OfSide) (sym at) ∙ subst (λ (y : ℕ). suits OfSide (form_at y s.world.nodes) ≡ true) (same_number race other e) suit)) in
-    let other2 : form_at other s2.world.nodes ≡ form_at other s.world.nodes = form_put_other race other (Race left right (Some side)) s1.world.nodes race_other ∙ form_put_other side other (Side (Fired t)) s.world.nodes d in
-    let c = went_both [] [] [] [] s s1 s2 a b in
-    let e = other_ends (form_at other s.world.nodes) race side other s2 other2 suit c.standing c.shaped (c.same.firing ∙ firing) own2 own_other (ap is_some side2) d in
-    went_both [] [] [] [] s s2 (race_won race left right side other t s) c e
+    let d = other_apart s race left right side None (left == side) refl at side_live st in
+    record {
+      went = went_both [] [] [] [] s s1 s2 a b;
+      at = at2;
+      owns_side = ap (λ (o : Option Form). is_in side (parts_found o)) at2 ∙ side_in;
+      owns_other = ap (λ (o : Option Form). is_in other (parts_found o)) at2 ∙ other_in (left == side) left right;
+      side_at = form_put_other race side (Race left right (Some side)) s1.world.nodes (swap side race race_side) ∙ form_put_same side (Side (Fired t)) (Side (Waits t)) s.world.nodes side_at;
+      suit = suit;
+      other_at = form_put_other race other (Race left right (Some side)) s1.world.nodes race_other ∙ form_put_other side other (Side (Fired t)) s.world.nodes d;
+      apart = d;
+      race_apart = race_other;
+    }
   where
     is_race : Option Form → Bool
     is_race (Some (Race l r w)) = true
@@ -276,6 +298,14 @@ race_went race left right side t s st sh firing at own side_at =
 
     swap : (a b : ℕ) → nat_eq a b ≡ false → nat_eq b a ≡ false
     swap a b h = grind (arith, nat_tests)
+
+race_went : (race left right side t : ℕ) (s : State) → Owned s → Shaped s.world → s.world.firing ≡ Some side → form_at race s.world.nodes ≡ Some (Race left right None) → owns race side s.world.nodes ≡ true → form_at side s.world.nodes ≡ Some (Side (Waits t)) → Went [] [] s (race_won race left right side (loser left right side) t s)
+race_went race left right side t s st sh firing at own side_at =
+    let other = loser left right side in
+    let s2 = silent (race_decided race left right side t) s in
+    let r = is_decided race left right side t s st sh at own side_at in
+    let e = other_ends (form_at other s.world.nodes) race side other s2 r.other_at r.suit r.went.standing r.went.shaped (r.went.same.firing ∙ firing) r.owns_side r.owns_other (ap is_some r.side_at) r.apart in
+    went_both [] [] [] [] s s2 (race_won race left right side other t s) r.went e
 
 -- the Side under its owner
 under : (setting : Setting) (owner : ℕ) (form : Form) (side t : ℕ) (s : State) → Fits setting → CommandsKeep setting → Owned s → Shaped s.world → s.world.firing ≡ Some side → form_at owner s.world.nodes ≡ Some form → owns owner side s.world.nodes ≡ true → form_at side s.world.nodes ≡ Some (Side (Waits t)) → Went [] [] s (side_fired_under setting owner form side t s)

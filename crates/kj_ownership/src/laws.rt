@@ -10,13 +10,14 @@ ghost use Rattle.kj_model.specs.Falling.{falling};
 ghost use Rattle.kj_model.specs.Fire.{fire_form};
 ghost use Rattle.kj_model.specs.Framed.{times};
 ghost use Rattle.kj_model.specs.Free.{Guard, Holding, free};
-ghost use Rattle.kj_model.specs.Nodes.{form_at, is_in};
+ghost use Rattle.kj_base.specs.Record.{Item};
+ghost use Rattle.kj_model.specs.Nodes.{Chain, Entry, Race, Side, Waits, form_at, is_in, owner_of};
 ghost use Rattle.kj_model.specs.Owned.{IsInOrder, numbers, tree_roots};
 ghost use Rattle.kj_model.specs.Places.{table_fits};
 ghost use Rattle.kj_model.specs.Trees.{tree_numbers};
-ghost use Rattle.kj_model.specs.Value.{value};
+ghost use Rattle.kj_model.specs.Value.{Took, value, value_link};
 ghost use Rattle.kj_model.specs.World.{Promise, RequestOf, Setting, State, depth_of, held_at, new_state};
-ghost use Rattle.kj_ownership.specs.Firing.{BranchesOutlive, IsFiring, Outlives, event_ended, event_taken};
+ghost use Rattle.kj_ownership.specs.Firing.{BranchesOutlive, IsFiring, MayWin, Outlives, TakesPlace, event_ended, event_taken, gave_promise, world_freed};
 ghost use Rattle.kj_ownership.specs.Fits.{Fits};
 ghost use Rattle.kj_ownership.specs.Kept.{Kept, Rests, TakesSpent, is_open};
 ghost use Rattle.kj_ownership.specs.Owners.{is_live, owns};
@@ -97,4 +98,24 @@ pub fn what_fires_outlives_its_tree()
     ensures branches { (setting : Setting) (n tree : ℕ) (s : State) → Fits setting → IsFiring n s → owns n tree s.world.nodes ≡ true → BranchesOutlive n tree (value setting tree s).0.world }
     ensures owner_form { (setting : Setting) (n tree owner : ℕ) (s : State) → Fits setting → IsFiring n s → owns n tree s.world.nodes ≡ true → owns owner n s.world.nodes ≡ true → stem (form_at owner (value setting tree s).0.world.nodes) ≡ stem (form_at owner s.world.nodes) }
     ensures owner_outlives { (setting : Setting) (n tree owner : ℕ) (s : State) → Fits setting → IsFiring n s → owns n tree s.world.nodes ≡ true → owns owner n s.world.nodes ≡ true → Outlives owner tree (value setting tree s).0.world }
+{}
+
+/// The owner that is found of a node is one, with the form that is found.
+pub fn owners_are_found()
+    ensures form { (n : ℕ) (owner : Entry) (s : State) → Owned s → owner_of n s.world.nodes ≡ Some owner → form_at owner.number s.world.nodes ≡ Some owner.form }
+    ensures owns { (n : ℕ) (owner : Entry) (s : State) → Owned s → owner_of n s.world.nodes ≡ Some owner → owns owner.number n s.world.nodes ≡ true }
+{}
+
+/// While the event of a Chain fires, the steps of its Then leave it, and it outlives its Then; a promise that the Then's step gave stands nowhere and may take the Chain's place, once the Then was freed.
+pub fn a_chain_takes_the_promise()
+    ensures form { (setting : Setting) (n link : ℕ) (s : State) → Fits setting → IsFiring n s → form_at n s.world.nodes ≡ Some (Chain link) → form_at n (value_link setting link s).0.world.nodes ≡ Some (Chain link) }
+    ensures outlives { (setting : Setting) (n link : ℕ) (s : State) → Fits setting → IsFiring n s → form_at n s.world.nodes ≡ Some (Chain link) → Outlives n link (value_link setting link s).0.world }
+    ensures fires { (setting : Setting) (n link : ℕ) (s : State) → Fits setting → IsFiring n s → form_at n s.world.nodes ≡ Some (Chain link) → gave_promise (value_link setting link s).1 ≡ false → IsFiring n (value_link setting link s).0 }
+    ensures loose { (setting : Setting) (n link root : ℕ) (s : State) → Fits setting → IsFiring n s → form_at n s.world.nodes ≡ Some (Chain link) → (value_link setting link s).1 ≡ Some (Took root) → Standing (root ∷ []) [] [] (value_link setting link s).0 }
+    ensures place { (setting : Setting) (n link root : ℕ) (s : State) (past : List Item) → Fits setting → IsFiring n s → form_at n s.world.nodes ≡ Some (Chain link) → (value_link setting link s).1 ≡ Some (Took root) → TakesPlace n root (world_freed link past (value_link setting link s).0.world) }
+{}
+
+/// While the event of a Side fires that waits under a Race without a winner, it may win: the Race outlives the tree of its other Side.
+pub fn a_race_may_be_won()
+    ensures { (race left right side tree : ℕ) (s : State) → IsFiring side s → form_at side s.world.nodes ≡ Some (Side (Waits tree)) → form_at race s.world.nodes ≡ Some (Race left right None) → owns race side s.world.nodes ≡ true → MayWin race left right side tree s.world }
 {}
