@@ -1,0 +1,11 @@
+//! A turn of a loop, over any keeper of nodes and any keeper of names: one event is taken and fires.
+#![tactic(auto)]
+
+mod ending;
+mod firing;
+mod keeping;
+mod looks;
+mod siding;
+mod turned;
+
+pub use turned::Turned;
