@@ -104,26 +104,42 @@ acts_less Old New rule From Less change view a b k l less d = record {
   goes = λ answer s old from agrees missing. d.goes answer s old (less (setting_of rule answer) s old from) agrees missing;
 }
 
--- between two changes that aren't told
-pub acts_within : {E : Type 0} (Old Mid Then New : World → Type 0) (rule : Rule) (From Fires : Setting → State → Type 0) (change : Setting → State → State) (whole : Setting → State → E) (view : State → E) (g h : World → World) (a b : Option (List Item)) (k l : ℕ)
-    → Acts Mid Then rule Fires change (λ s. s) a b k l
-    → ((setting : Setting) (s : State) → Old s.world → From setting s → Mid (g s.world) × Fires setting (silent g s))
+-- and then a change that isn't told
+pub acts_after : {E : Type 0} (Old Then New : World → Type 0) (rule : Rule) (From : Setting → State → Type 0) (change : Setting → State → State) (whole : Setting → State → E) (view : State → E) (h : World → World) (a b : Option (List Item)) (k l : ℕ)
+    → Acts Old Then rule From change (λ s. s) a b k l
     → ((w : World) → Then w → New (h w))
-    → ((setting : Setting) (s : State) → Old s.world → From setting s → Then (change setting (silent g s)).world → view (silent h (change setting (silent g s))) ≡ whole setting s)
+    → ((setting : Setting) (s : State) → New (h (change setting s).world) → view (silent h (change setting s)) ≡ whole setting s)
     → Acts Old New rule From whole view a b k l
-acts_within Old Mid Then New rule From Fires change whole view g h a b k l d begins ends same = record {
+acts_after Old Then New rule From change whole view h a b k l d ends same = record {
   items = d.items;
   missing = d.missing;
   told = d.told;
   lacks = d.lacks;
   goes = λ answer s old from agrees missing.
       let setting : Setting = setting_of rule answer in
-      let p = begins setting s old from in
-      let r = d.goes answer (silent g s) p.0 p.1 agrees missing in
+      let r = d.goes answer s old from agrees missing in
       record {
         state = silent h r.state;
         stands = ends r.state.world r.stands;
         past_is = r.past_is;
-        ends = ap (λ (t : State). view (silent h t)) r.ends ∙ same setting s old from (subst (λ (t : State). Then t.world) r.ends r.stands);
+        ends = ap (λ (t : State). view (silent h t)) r.ends ∙ same setting s (subst (λ (t : State). New (h t.world)) r.ends (ends r.state.world r.stands));
       };
+}
+
+-- and before that one that isn't told
+pub acts_before : {E : Type 0} (Old Mid New : World → Type 0) (rule : Rule) (From Fires : Setting → State → Type 0) (change whole : Setting → State → E) (view : State → E) (g : World → World) (a b : Option (List Item)) (k l : ℕ)
+    → Acts Mid New rule Fires change view a b k l
+    → ((w : World) → Old w → Mid (g w))
+    → ((setting : Setting) (s : State) → Old s.world → From setting s → Fires setting (silent g s) × (change setting (silent g s) ≡ whole setting s))
+    → Acts Old New rule From whole view a b k l
+acts_before Old Mid New rule From Fires change whole view g a b k l d begins same = record {
+  items = d.items;
+  missing = d.missing;
+  told = d.told;
+  lacks = d.lacks;
+  goes = λ answer s old from agrees missing.
+      let setting : Setting = setting_of rule answer in
+      let p = same setting s old from in
+      let r = d.goes answer (silent g s) (begins s.world old) p.0 agrees missing in
+      record { state = r.state; stands = r.stands; past_is = r.past_is; ends = r.ends ∙ p.1 };
 }

@@ -1,5 +1,5 @@
 -- What an event does, by the form of its node.
-use Rattle.std.specs.Prelude.{◌≡◌, ℕ, [], ◌∷◌, Option, None, Some, Bool, true, false}
+use Rattle.std.specs.Prelude.{◌≡◌, ◌<◌, ℕ, [], ◌∷◌, Option, None, Some, Bool, true, false}
 use Rattle.kj_base.specs.declared.nodes.Link.{Link}
 use Rattle.kj_base.specs.Queue.{DepthFirst}
 use Rattle.kj_model.specs.Nodes.{Form, Tree, Waits, Chain, Hub, Side, Task, Request, form_at, owner_of, parts_found}
@@ -48,6 +48,10 @@ FromUnder tree owner form n setting s = From (SideWaits tree) n setting s × (ow
 -- the event of a node fires that is no Request
 abbrev pub FromNode : ℕ → Setting → State → Type 0
 FromNode n setting s = Fits setting × IsFiring n s × (is_request (form_at n s.world.nodes) ≡ false)
+
+-- an event was taken that is no Request's: a node's fires; no node has the number 0 of the wait
+abbrev pub FromTaken : ℕ → Setting → State → Type 0
+FromTaken n setting s = Fits setting × (0 < n → IsFiring n s) × (form_at 0 s.world.nodes ≡ None) × (is_request (form_at n s.world.nodes) ≡ false)
 
 -- what the event of a node does
 abbrev pub fired : ℕ → Setting → State → State

@@ -7,5 +7,7 @@ mod keeping;
 mod looks;
 mod siding;
 mod turned;
+mod turning;
 
 pub use turned::Turned;
+pub use turning::turn;

@@ -1,12 +1,19 @@
 //! What the event of a node does.
 ghost use Rattle.std.specs.Prelude.{◌≡◌, [], List, ℕ, Some, true, option_copied};
-ghost use Rattle.kj_model.specs.World.{World};
-ghost use Rattle.kj_model.specs.Nodes.{form_at};
-ghost use Rattle.promise_nodes.specs.Kept.{ShowsPlain};
+ghost use Rattle.kj_model.specs.World.{World, State, Setting};
+ghost use Rattle.kj_model.specs.Nodes.{form_at, owner_of};
+ghost use Rattle.kj_model.specs.Listening.{join_ready};
+ghost use Rattle.kj_model.specs.Fire.{side_fired_by};
+ghost use Rattle.promise_nodes.specs.Kept.{IsLive, ShowsPlain};
 ghost use Rattle.promise_nodes.specs.Shown.{shown};
+ghost use Rattle.promise_firing.specs.Stages.{IsOwner, fired_under, sides_of};
 ghost use Rattle.promise_turns.specs.Events.{IfPlain, IsEvent};
 
 use kj_base::{Content, Form, Link, Stage};
+use promise_eval::Evaluator;
+use promise_firing::{Above, Joined, above_side};
+use promise_listening::is_join_ready;
+use promise_names::Names;
 use promise_nodes::Nodes;
 
 /// What an event does, with the tree that its node has.
@@ -57,8 +64,8 @@ fn event_of(form: &Form) -> Event
     }
 }
 
-/// What the event of a node does; nothing where it isn't live.
-pub(crate) fn event_at<N: Nodes>(nodes: &N, node: Link) -> Event
+// What the event of a node does; nothing where it isn't live.
+fn event_at<N: Nodes>(nodes: &N, node: Link) -> Event
     ensures event { (w : World) → N.stands nodes.now w → IsEvent result (form_at node.number.0 w.nodes) }
     ensures plain { IfPlain result (N.is_plain nodes.now node.number.0 ≡ true) }
 {
@@ -66,4 +73,30 @@ pub(crate) fn event_at<N: Nodes>(nodes: &N, node: Link) -> Event
         Some(form) => event_of(form),
         None => Event::Nothing,
     }
+}
+
+/// The same over the ground of an evaluator.
+pub(crate) fn look<N: Nodes + Drop, M: Names + Drop>(over: &Evaluator<N, M>, node: Link) -> Event
+    ensures event { (w : World) → N.stands over.now.nodes w → IsEvent result (form_at node.number.0 w.nodes) }
+    ensures plain { IfPlain result (N.is_plain over.now.nodes node.number.0 ≡ true) }
+{
+    event_at(over.ground.nodes(), node)
+}
+
+/// What owns a live Side.
+pub(crate) fn above<N: Nodes + Drop, M: Names + Drop>(over: &Evaluator<N, M>, side: Link) -> Above
+    ensures fires { (setting : Setting) (tree : ℕ) (s : State) → N.stands over.now.nodes s.world → IsLive s.world side.number.0 → side_fired_by setting (owner_of side.number.0 s.world.nodes) side.number.0 tree s ≡ fired_under setting result side.number.0 tree s }
+    ensures owner { (w : World) → N.stands over.now.nodes w → IsLive w side.number.0 → IsOwner result (owner_of side.number.0 w.nodes) }
+{
+    above_side(over.ground.nodes(), side)
+}
+
+/// Whether a fast join is ready.
+pub(crate) fn is_fast_ready<N: Nodes + Drop, M: Names + Drop>(
+    over: &Evaluator<N, M>,
+    joined: Joined,
+) -> bool
+    ensures { (w : World) → N.stands over.now.nodes w → result ≡ join_ready true (sides_of joined) w.nodes }
+{
+    is_join_ready(over.ground.nodes(), true, joined.first, joined.count)
 }

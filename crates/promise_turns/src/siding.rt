@@ -1,8 +1,9 @@
 //! The Side of a race or a join that fires.
 ghost use Rattle.std.specs.Prelude.{◌≡◌, true, false, None, Some};
-ghost use Rattle.kj_model.specs.Nodes.{Race, Join};
-ghost use Rattle.kj_model.specs.Fire.{fast_announced, kept_then, race_won};
-ghost use Rattle.promise_nodes.specs.Kept.{OnlyRises};
+ghost use Rattle.kj_model.specs.Nodes.{Race, Join, Side, Waits as WaitsStage, form_at};
+ghost use Rattle.kj_model.specs.World.{World};
+ghost use Rattle.kj_model.specs.Fire.{all_fired, fast_announced, kept_then, race_won};
+ghost use Rattle.promise_nodes.specs.Kept.{IsLive, OnlyRises};
 ghost use Rattle.promise_nodes.specs.Shown.{next_number, node_number};
 ghost use Rattle.promise_walks.specs.Walks.{Both, Does};
 ghost use Rattle.promise_firing.specs.Outliving.{Outlives};
@@ -11,11 +12,11 @@ ghost use Rattle.promise_turns.specs.declared.looks.Event.TheVariants.{Waits};
 ghost use Rattle.promise_turns.specs.Acting.{Acts};
 ghost use Rattle.promise_turns.specs.Events.{From, FromUnder, fired};
 
+use crate::looks::{above, is_fast_ready};
 use kj_base::{Link, NodeId, Outcome};
 use promise_commands::Steps;
 use promise_eval::Evaluator;
-use promise_firing::{Above, Joined, above_side, count_side, keep_side, win_race};
-use promise_listening::is_join_ready;
+use promise_firing::{Above, Joined, count_side, keep_side, win_race};
 use promise_names::Names;
 use promise_nodes::Nodes;
 
@@ -69,6 +70,21 @@ fn fire_under_race<N: Nodes + Drop, M: Names + Drop, S: Steps>(
     }
 }
 
+// A Side of an All has fired, and it counts.
+fn count<N: Nodes + Drop, M: Names + Drop>(
+    over: &mut Evaluator<N, M>,
+    joined: Joined,
+    side: Link,
+    tree: Link,
+)
+    ensures nodes { (w : World) → N.stands over.old.nodes w → form_at side.number.0 w.nodes ≡ Some (Side (WaitsStage tree.number.0)) → IsLive w joined.join.number.0 → N.stands over.new.nodes (all_fired joined.join.number.0 (sides_of joined) side.number.0 tree.number.0 w) }
+    ensures names { over.new.names ≡ over.old.names }
+    ensures plain { OnlyRises (N.is_plain over.old.nodes) (N.is_plain over.new.nodes) }
+    ensures slots { N.slots over.new.nodes ≡ N.slots over.old.nodes }
+{
+    count_side(&mut over.ground.keepers.nodes, joined, side, tree);
+}
+
 // A Side of an All only counts.
 fn fire_under_all<N: Nodes + Drop, M: Names + Drop, S: Steps>(
     over: &mut Evaluator<N, M>,
@@ -82,7 +98,7 @@ fn fire_under_all<N: Nodes + Drop, M: Names + Drop, S: Steps>(
     ensures slots { N.slots over.new.nodes ≡ N.slots over.old.nodes }
     ensures over { M.over over.new.names ≡ M.over over.old.names }
 {
-    count_side(&mut over.ground.keepers.nodes, joined, node, tree);
+    count(over, joined, node, tree);
 }
 
 // The tree of a fast join's Side gave this outcome.
@@ -129,7 +145,7 @@ fn fire_under_fast<N: Nodes + Drop, M: Names + Drop, S: Steps>(
     ensures slots { N.slots over.new.nodes ≡ N.slots over.old.nodes }
     ensures over { M.over over.new.names ≡ M.over over.old.names }
 {
-    let was_ready = is_join_ready(over.ground.nodes(), true, joined.first, joined.count);
+    let was_ready = is_fast_ready(over, joined);
     match over.evaluate(tree, steps) {
         Ok(outcome) => keep(over, joined, was_ready, node, tree, outcome, steps),
         Err(_) => {}
@@ -148,7 +164,7 @@ pub(crate) fn fire_side<N: Nodes + Drop, M: Names + Drop, S: Steps>(
     ensures slots { N.slots over.new.nodes ≡ N.slots over.old.nodes }
     ensures over { M.over over.new.names ≡ M.over over.old.names }
 {
-    match above_side(over.ground.nodes(), node) {
+    match above(over, node) {
         Above::Race { race, left, winner } => {
             fire_under_race(over, race, left, winner, node, tree, steps)
         }
