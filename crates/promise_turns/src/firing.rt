@@ -33,7 +33,8 @@ fn fire_node<N: Nodes + Drop, M: Names + Drop, S: Steps>(
         Event::Shares(tree) => fire_sharing(over, node, tree, steps),
         Event::Waits(tree) => fire_side(over, node, tree, steps),
         Event::Ends(tree) => fire_task(over, node, tree, steps),
-        Event::Requests | Event::Nothing => {}
+        Event::Requests => {}
+        Event::Nothing => {}
     }
 }
 
