@@ -5,11 +5,11 @@ use Rattle.kj_base.specs.Counts.{HasLacked}
 use Rattle.kj_base.specs.Record.{Item, Tells}
 use Rattle.kj_model.specs.World.{World, State, Setting}
 use Rattle.kj_model.specs.Changes.{silent}
-use Rattle.promise_walks.specs.Walks.{Moved, Moves}
-use Rattle.promise_walks.specs.Values.{Valued, Rule, Answer, Agrees, Goes, Lacks, gave, setting_of}
+use Rattle.promise_walks.specs.Walks.{Moves}
+use Rattle.promise_walks.specs.Values.{Valued, Rule, Goes, Lacks, gave, setting_of}
 use Rattle.promise_walks.proofs.Composed.{tells_none, tells_then}
 use Rattle.promise_walks.proofs.Answering.{agrees_append}
-use Rattle.promise_turns.specs.Acting.{Acts, IsMissing}
+use Rattle.promise_turns.specs.Acting.{Acts}
 
 -- an evaluation, and then a change that asks for no answer
 pub acts_then : {X : Type 0} (Old Mid New P : World → Type 0) (rule : Rule) (From : Setting → State → Type 0) (valued : Setting → State → Valued X) (x : X) (change f : Setting → State → State) (xs ys : List Item) (a b c : Option (List Item)) (k l m : ℕ)

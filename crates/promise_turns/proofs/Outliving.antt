@@ -1,21 +1,20 @@
 -- What the laws of ownership tell of the node whose event fires.
-use Rattle.std.proofs.Common.{◌≡◌, ◌≢◌, ◌∙◌, sym, ap, subst, refl, ℕ, List, [], ◌∷◌, Option, None, Some, Bool, true, false}
+use Rattle.std.proofs.Common.{◌≡◌, ◌∙◌, sym, ap, subst, ℕ, [], ◌∷◌, Option, None, Some, Bool, true, false}
 use Rattle.std.proofs.lemmas.Bool.{false≢true}
-use Rattle.kj_base.specs.Record.{Item}
-use Rattle.kj_model.specs.Nodes.{Form, Entry, Side, Waits, Chain, Race, Join, Task, form_at, owner_of, parts_found, is_in}
-use Rattle.kj_model.specs.World.{World, State, Setting}
-use Rattle.kj_model.specs.Value.{Given, Gave, Took, value, value_link}
+use Rattle.kj_model.specs.Nodes.{Form, Entry, Side, Waits, Chain, Race, Join, form_at, owner_of, parts_found, is_in}
+use Rattle.kj_model.specs.World.{State, Setting}
+use Rattle.kj_model.specs.Value.{Given, Gave, Took, value_link}
 use Rattle.kj_model.proofs.Members.{in_self}
 use Rattle.kj_ownership.specs.Owners.{owns}
-use Rattle.kj_ownership.specs.Shapes.{Kind, OfTree, OfSide, OfLink, part_kind, suits, is_side}
-use Rattle.kj_ownership.specs.Firing.{IsFiring, TakesPlace as TakesPlaceOwned}
+use Rattle.kj_ownership.specs.Shapes.{Kind, OfTree, OfSide, part_kind, suits}
+use Rattle.kj_ownership.specs.Firing.{IsFiring}
 use Rattle.kj_ownership.specs.Fits.{Fits}
 use Rattle.kj_ownership.proofs.Giving.{link_place}
 use Rattle.kj_ownership.proofs.Sides.{owner_is}
 use Rattle.kj_ownership.proofs.Winning.{may_win}
 use Rattle.promise_nodes.specs.Kept.{OwnsTree}
 use Rattle.promise_nodes.specs.Shown.{next_number}
-use Rattle.promise_firing.specs.Outliving.{MayEnd, TakesPlace, world_freed}
+use Rattle.promise_firing.specs.Outliving.{MayEnd}
 use Rattle.promise_firing.specs.Stages.{MayBeSide, MayWin}
 
 -- a node owns its only part

@@ -1,9 +1,9 @@
 -- The Side of a race or a join, under its owner.
-use Rattle.std.proofs.Common.{◌≡◌, ◌∙◌, sym, ap, refl, ℕ, List, [], ◌∷◌, Option, None, Some, Bool, true, false}
+use Rattle.std.proofs.Common.{◌≡◌, ◌∙◌, sym, ap, refl, ℕ, List, [], ◌∷◌, Option, Some, Bool, true, false}
 use Rattle.kj_base.specs.declared.outcomes.Outcome.{Outcome}
 use Rattle.kj_base.specs.declared.nodes.Link.{Link}
 use Rattle.kj_base.specs.Queue.{DepthFirst}
-use Rattle.kj_model.specs.Nodes.{Form, Entry, Side, Waits, Fired, Race, Join, form_at, owner_of, parts_found}
+use Rattle.kj_model.specs.Nodes.{Form, Entry, Side, Fired, Join, form_at, parts_found}
 use Rattle.kj_model.specs.World.{World, State, Setting}
 use Rattle.kj_model.specs.Changes.{put}
 use Rattle.kj_model.specs.Listening.{join_ready}

@@ -1,19 +1,17 @@
 -- An event that is taken, fires, and ends.
-use Rattle.std.proofs.Common.{◌≡◌, ◌∙◌, sym, ap, subst, refl, ℕ, zero, suc, ◌<◌, List, [], Option, None, Some, Bool, true, false}
+use Rattle.std.proofs.Common.{◌≡◌, ◌∙◌, sym, ap, refl, ℕ, Option, None, Some, Bool, true, false}
 use Rattle.std.specs.Prelude.{is_some}
 use Rattle.std.proofs.lemmas.Bool.{false≢true}
 use Rattle.kj_base.specs.Queue.{head_of}
 use Rattle.kj_model.specs.Nodes.{Form, form_at}
-use Rattle.kj_model.specs.World.{World, State, Setting}
+use Rattle.kj_model.specs.World.{State, Setting}
 use Rattle.kj_model.specs.Changes.{silent}
-use Rattle.kj_model.specs.Calls.{Turned, Idle, Stopped, turn, turn_at, turn_unless, rewound_world}
+use Rattle.kj_model.specs.Calls.{Idle, Stopped, turn, turn_at, turn_unless, rewound_world}
 use Rattle.kj_ownership.specs.Standing.{IsRecorded}
-use Rattle.kj_ownership.specs.Kept.{Rests}
-use Rattle.kj_ownership.specs.Owners.{is_live}
 use Rattle.kj_ownership.proofs.Changed.{live_event}
 use Rattle.kj_ownership.proofs.Taking.{takes_event}
 use Rattle.promise_firing.specs.Events.{event_taken}
-use Rattle.promise_turns.specs.Events.{FromTaken, fired}
+use Rattle.promise_turns.specs.Events.{FromTaken}
 use Rattle.promise_turns.specs.Turns.{MayTurn, turned_at}
 
 no_form : (o : Option Form) → (is_some o ≡ true → ⊥) → o ≡ None

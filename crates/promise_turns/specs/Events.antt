@@ -2,7 +2,7 @@
 use Rattle.std.specs.Prelude.{◌≡◌, ◌<◌, ℕ, [], ◌∷◌, Option, None, Some, Bool, true, false}
 use Rattle.kj_base.specs.declared.nodes.Link.{Link}
 use Rattle.kj_base.specs.Queue.{DepthFirst}
-use Rattle.kj_model.specs.Nodes.{Form, Tree, Waits, Chain, Hub, Side, Task, Request, form_at, owner_of, parts_found}
+use Rattle.kj_model.specs.Nodes.{Form, Tree, Waits, Chain, Side, Task, Request, form_at, owner_of, parts_found}
 use Rattle.kj_model.specs.World.{World, State, Setting}
 use Rattle.kj_model.specs.Listening.{announced}
 use Rattle.kj_model.specs.Fire.{branches_announced, fire_form, kept_from}

@@ -1,4 +1,4 @@
-use Rattle.std.proofs.Common.{◌∙◌, sym, ap, Option, None, Some}
+use Rattle.std.proofs.Common.{◌∙◌, sym, ap, Option, Some}
 use Rattle.kj_base.specs.declared.outcomes.Outcome.{Outcome}
 use Rattle.kj_model.specs.World.{World}
 use Rattle.kj_model.specs.Value.{value}

@@ -1,4 +1,4 @@
-use Rattle.std.proofs.Common.{◌∙◌, sym, ap, subst, refl, false}
+use Rattle.std.proofs.Common.{sym, ap, subst, false}
 use Rattle.std.specs.Prelude.{is_some}
 use Rattle.kj_model.specs.Nodes.{Form, Join}
 use Rattle.kj_model.specs.World.{World}
@@ -21,7 +21,7 @@ returns-clause-acts g c =
     let B : World → Type 0 = Both (g.N.Nodes.stands c.count.new.over.nodes) (g.M.Names.stands c.count.new.over.names) in
     acts_silent A B g.N.Nodes.rule (FromUnder c.args.tree join form n) (fired n) (λ s. s) (all_fired join sides n t) _ _
     (λ setting s stands from.
-      let o = owner_is c.args.tree n join form setting s from in
-      let nodes = c.count.ensures.nodes s.world stands.0 from.0.2 (ap is_some o.0) in
-      let names = g.met.M.Names.nodes_free c.args.over.now.names s.world (all_fired join sides n t s.world) (all_names join sides n t s.world) stands.1 in
-      ((nodes, subst (λ names. g.M.Names.stands names (all_fired join sides n t s.world)) (sym c.count.ensures.names) names), sym (side_fired_is c.args.tree n join form setting s from)))
+    let o = owner_is c.args.tree n join form setting s from in
+    let nodes = c.count.ensures.nodes s.world stands.0 from.0.2 (ap is_some o.0) in
+    let names = g.met.M.Names.nodes_free c.args.over.now.names s.world (all_fired join sides n t s.world) (all_names join sides n t s.world) stands.1 in
+    ((nodes, subst (λ names. g.M.Names.stands names (all_fired join sides n t s.world)) (sym c.count.ensures.names) names), sym (side_fired_is c.args.tree n join form setting s from)))

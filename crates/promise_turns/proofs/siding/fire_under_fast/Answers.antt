@@ -1,4 +1,4 @@
-use Rattle.std.proofs.Common.{◌∙◌, sym, ap, refl, Option, None, Some, true}
+use Rattle.std.proofs.Common.{None, Some, true}
 use Rattle.kj_model.specs.Nodes.{Form, Join}
 use Rattle.kj_model.specs.World.{World}
 use Rattle.kj_model.specs.Value.{value}

@@ -1,4 +1,4 @@
-use Rattle.std.proofs.Common.{◌∙◌, sym, ap, subst, refl, None, Some}
+use Rattle.std.proofs.Common.{sym, subst, refl, None, Some}
 use Rattle.kj_model.specs.World.{World}
 use Rattle.kj_model.specs.Calls.{turn}
 use Rattle.promise_walks.specs.Walks.{Both}
