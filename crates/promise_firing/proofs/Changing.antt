@@ -4,25 +4,26 @@ use Rattle.std.proofs.lemmas.List.{append-nil}
 use Rattle.kj_model.specs.World.{World, State}
 use Rattle.kj_base.specs.Record.{Item}
 use Rattle.kj_model.specs.Changes.{silent}
-use Rattle.promise_walks.specs.Walks.{Does}
+use Rattle.promise_walks.specs.Walks.{Moves, Does}
 use Rattle.promise_walks.proofs.Composed.{tells_none, does_then}
 
 -- a change that isn't told behind one that is, and what is left to do then
+pub moves_silent : (A B C : World → Type 0) (f g h : State → State) (change : World → World) (xs : List Item) → Moves A B f (λ s. s) xs
+    → ((s : State) → A s.world → B (f s).world → C (change (f s).world) × (h (silent change (f s)) ≡ g s)) → Moves A C g h xs
+moves_silent A B C f g h change xs m then s stands =
+    let r = m s stands in
+    let q = then s stands (subst (λ (t : State). B t.world) r.ends r.stands) in
+    record {
+      state = silent change (f s);
+      stands = q.0;
+      past_is = ap (λ (t : State). t.past) (sym r.ends) ∙ r.past_is;
+      ends = q.1;
+    }
+
+-- the same with what was told
 pub does_silent : (A B C : World → Type 0) (f g h : State → State) (change : World → World) (a b : Option (List Item)) → Does A B f (λ s. s) a b
     → ((s : State) → A s.world → B (f s).world → C (change (f s).world) × (h (silent change (f s)) ≡ g s)) → Does A C g h a b
-does_silent A B C f g h change a b d then = record {
-  items = d.items;
-  told = d.told;
-  moves = λ s stands.
-      let r = d.moves s stands in
-      let q = then s stands (subst (λ (t : State). B t.world) r.ends r.stands) in
-      record {
-        state = silent change (f s);
-        stands = q.0;
-        past_is = ap (λ (t : State). t.past) (sym r.ends) ∙ r.past_is;
-        ends = q.1;
-      };
-}
+does_silent A B C f g h change a b d then = record { items = d.items; told = d.told; moves = moves_silent A B C f g h change d.items d.moves then }
 
 -- what is left to do then
 does_over : (A B : World → Type 0) (f g : State → State) (a b : Option (List Item)) → Does A B f (λ s. s) a b → Does A B (λ s. g (f s)) g a b

@@ -4,3 +4,4 @@ pub mod Events
 pub mod Outliving
 pub mod Left
 pub mod Stages
+pub mod Ending

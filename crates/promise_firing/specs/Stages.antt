@@ -1,7 +1,7 @@
 -- Sides that fire, under a Race or a join.
 use Rattle.std.specs.Prelude.{◌≡◌, ℕ, List, Option, None, Some, ◌==◌}
 use Rattle.kj_base.specs.Record.{Item}
-use Rattle.kj_model.specs.Nodes.{Form, Stage, Waits, Fired, Keeps, Gone, Side, Race, form_at}
+use Rattle.kj_model.specs.Nodes.{Form, Entry, Stage, Waits, Fired, Keeps, Gone, Side, Race, Join, form_at}
 use Rattle.kj_model.specs.World.{World, State, Setting}
 use Rattle.kj_model.specs.Changes.{put, silent}
 use Rattle.kj_model.specs.Fire.{race_fired, join_fired, other_side, tree_freed}
@@ -20,6 +20,17 @@ abbrev pub fired_under : Setting → Above → ℕ → ℕ → State → State
 fired_under setting Nothing side tree s = s
 fired_under setting (UnderRace race left winner) side tree s = race_fired race.number.0 left.number.0 (next_number left.number.0) (node_number winner) side tree s
 fired_under setting (UnderJoin joined is_fast) side tree s = join_fired setting is_fast joined.join.number.0 (sides_of joined) side tree s
+
+-- the number and the form of what owns a Side, where it is a Race or a join
+abbrev pub IsAbove : Above → ℕ → Form → Type 0
+IsAbove Nothing number form = Unit {0}
+IsAbove (UnderRace race left winner) number form = (number ≡ race.number.0) × (form ≡ Race left.number.0 (next_number left.number.0) (node_number winner))
+IsAbove (UnderJoin joined is_fast) number form = (number ≡ joined.join.number.0) × (form ≡ Join is_fast (sides_of joined))
+
+-- the same of the owner that there may be
+abbrev pub IsOwner : Above → Option Entry → Type 0
+IsOwner above None = above ≡ Nothing
+IsOwner above (Some owner) = IsAbove above owner.number owner.form
 
 -- a Side, or no node
 abbrev pub MayBeSide : Option Form → Type 0

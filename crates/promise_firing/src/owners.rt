@@ -1,11 +1,11 @@
 //! Under what a Side stands.
 ghost use Rattle.std.specs.Prelude.{◌≡◌, ℕ, List};
-ghost use Rattle.kj_model.specs.World.{State, Setting};
+ghost use Rattle.kj_model.specs.World.{World, State, Setting};
 ghost use Rattle.kj_model.specs.Fire.{side_fired_by, side_fired_under};
 ghost use Rattle.kj_model.specs.Nodes.{owner_of};
 ghost use Rattle.promise_nodes.specs.Shown.{shown};
 ghost use Rattle.promise_nodes.specs.Kept.{IsLive};
-ghost use Rattle.promise_firing.specs.Stages.{fired_under};
+ghost use Rattle.promise_firing.specs.Stages.{IsAbove, IsOwner, fired_under};
 
 use kj_base::{Form, Link, NodeId};
 use promise_nodes::Nodes;
@@ -34,7 +34,8 @@ pub enum Above {
 }
 
 fn above_of(owner: Link, form: &Form) -> Above
-    ensures { (setting : Setting) (branches : List ℕ) (side tree : ℕ) (s : State) → side_fired_under setting owner.number.0 (shown branches form.now) side tree s ≡ fired_under setting result side tree s }
+    ensures fires { (setting : Setting) (branches : List ℕ) (side tree : ℕ) (s : State) → side_fired_under setting owner.number.0 (shown branches form.now) side tree s ≡ fired_under setting result side tree s }
+    ensures above { (branches : List ℕ) → IsAbove result owner.number.0 (shown branches form.now) }
 {
     match form {
         Form::Race { left, winner } => Above::Race {
@@ -63,7 +64,8 @@ fn above_of(owner: Link, form: &Form) -> Above
 
 /// What owns a live Side.
 pub fn above_side<N: Nodes>(nodes: &N, side: Link) -> Above
-    ensures { (setting : Setting) (tree : ℕ) (s : State) → N.stands nodes.now s.world → IsLive s.world side.number.0 → side_fired_by setting (owner_of side.number.0 s.world.nodes) side.number.0 tree s ≡ fired_under setting result side.number.0 tree s }
+    ensures fires { (setting : Setting) (tree : ℕ) (s : State) → N.stands nodes.now s.world → IsLive s.world side.number.0 → side_fired_by setting (owner_of side.number.0 s.world.nodes) side.number.0 tree s ≡ fired_under setting result side.number.0 tree s }
+    ensures above { (w : World) → N.stands nodes.now w → IsLive w side.number.0 → IsOwner result (owner_of side.number.0 w.nodes) }
 {
     let Some(owner) = nodes.owner(side) else {
         return Above::Nothing;

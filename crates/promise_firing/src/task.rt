@@ -1,12 +1,12 @@
 //! A Task whose tree was evaluated.
 ghost use Rattle.std.specs.Prelude.{◌≡◌, ◌<◌, ℕ, None, true, length, vec_capacity};
-ghost use Rattle.kj_base.specs.declared.outcomes.Outcome.{Outcome};
-ghost use Rattle.kj_model.specs.World.{World, Setting};
+ghost use Rattle.kj_model.specs.World.{World};
 ghost use Rattle.kj_model.specs.Nodes.{Task, dropped};
 ghost use Rattle.kj_model.specs.Changes.{put};
-ghost use Rattle.kj_model.specs.Fire.{task_valued, set_left, without_left_over};
+ghost use Rattle.kj_model.specs.Fire.{set_left, without_left_over};
 ghost use Rattle.promise_nodes.specs.Kept.{OnlyFalls, OnlyRises};
 ghost use Rattle.promise_walks.specs.Walks.{Both, Does};
+ghost use Rattle.promise_firing.specs.Ending.{EndsTask};
 ghost use Rattle.promise_firing.specs.Ground.{IsSound, Keeps, ground};
 
 use crate::going::drop_plain;
@@ -50,7 +50,7 @@ pub fn end_task<N: Nodes, M: Names, S: Steps>(
     requires plain { N.is_plain nodes.old task.number.0 ≡ true }
     requires over { length (M.over names.old) < 2 }
     requires sound { IsSound (ground (N.is_taken nodes.old) (N.is_plain nodes.old) (N.next nodes.old) (N.slots nodes.old) (M.roots names.old) (M.count names.old) (M.limit names.old) (vec_capacity frames.old) (vec_capacity search.old)) }
-    ensures does { (setting : Setting) (outcome : Outcome) → Does (Both (N.stands nodes.old) (M.stands names.old)) (Both (N.stands nodes.new) (M.stands names.new)) (task_valued setting task.number.0 tree.number.0 (Some outcome)) (λ s. s) (S.told steps.old) (S.told steps.new) }
+    ensures does { EndsTask (Both (N.stands nodes.old) (M.stands names.old)) (Both (N.stands nodes.new) (M.stands names.new)) task.number.0 tree.number.0 (S.told steps.old) (S.told steps.new) }
     ensures lacks { S.lacks steps.new ≡ S.lacks steps.old }
     ensures kept { Keeps (ground (N.is_taken nodes.old) (N.is_plain nodes.old) (N.next nodes.old) (N.slots nodes.old) (M.roots names.old) (M.count names.old) (M.limit names.old) (vec_capacity frames.old) (vec_capacity search.old)) (ground (N.is_taken nodes.new) (N.is_plain nodes.new) (N.next nodes.new) (N.slots nodes.new) (M.roots names.new) (M.count names.new) (M.limit names.new) (vec_capacity frames.new) (vec_capacity search.new)) }
     ensures over { M.over names.new ≡ dropped task.number.0 (M.over names.old) }

@@ -8,6 +8,8 @@ mod commands;
 mod evaluations;
 mod tables;
 mod teller;
+#[cfg(test)]
+mod turns;
 
 pub use tables::{TableEvaluator, evaluator_over_tables};
 pub use teller::Teller;

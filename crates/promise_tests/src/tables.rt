@@ -1,9 +1,9 @@
 //! The layers over the plain store, the plain queue and the table of names.
-ghost use Rattle.std.specs.Prelude.{◌≤◌, IfOk};
+ghost use Rattle.std.specs.Prelude.{◌≡◌, ◌≤◌, [], IfOk};
 ghost use Rattle.kj_model.specs.World.{new_world};
 ghost use Rattle.node_table.specs.NodeTable.{node_of, Stands as TableStands};
 ghost use Rattle.promise_graph.specs.Standing.{StandsFor};
-ghost use Rattle.name_table.specs.Table.{Stands as NamesStand};
+ghost use Rattle.name_table.specs.Table.{Stands as NamesStand, trees};
 
 use event_list::EventList;
 use kj_base::{Limits, MAX_SLOTS, NoMemory};
@@ -37,6 +37,7 @@ pub fn evaluator_over_tables(alloc: Global, limits: Limits) -> Result<TableEvalu
     requires few { limits.slots ≤ MAX_SLOTS }
     ensures nodes { IfOk result (λ e. StandsFor (node_of e.nodes.store) e.nodes.queue.events (TableStands e.nodes.store) e.nodes.marks (new_world limits)) }
     ensures names { IfOk result (λ e. NamesStand e.names (new_world limits)) }
+    ensures none_over { IfOk result (λ e. trees e.names.over ≡ []) }
 {
     let graph = table_graph(alloc, limits)?;
     let names = NameTable::new(alloc, limits)?;

@@ -1,18 +1,18 @@
-use Rattle.std.proofs.Common.{◌∙◌, sym, None, Some}
+use Rattle.std.proofs.Common.{◌∙◌, ◌++◌, sym, None, Some}
 use Rattle.kj_model.specs.World.{World}
 use Rattle.kj_model.specs.Nodes.{Task}
 use Rattle.kj_model.specs.Changes.{put, silent, gone}
 use Rattle.kj_model.specs.Value.{freed}
 use Rattle.kj_model.specs.Fire.{set_left, without_left_over, task_valued}
 use Rattle.promise_walks.specs.Walks.{Both}
-use Rattle.promise_walks.proofs.Composed.{does_then}
-use Rattle.promise_firing.proofs.Changing.{does_silent}
+use Rattle.promise_walks.proofs.Composed.{moves_then, tells_then}
+use Rattle.promise_firing.proofs.Changing.{moves_silent}
 use Rattle.promise_firing.proofs.Kept.{keeps_rest}
 use Rattle.promise_firing.proofs.Tasks.{task_left_is}
 use Rattle.promise_firing.proofs.task.end_task.Goals as goal
 
 pub returns-clause-does : goal.returns-clause-does
-returns-clause-does g c setting o =
+returns-clause-does g c =
     let n = c.args.task.number.0 in
     let t = c.args.tree.number.0 in
     let A : World → Type 0 = Both (g.N.Nodes.stands c.args.nodes.now) (g.M.Names.stands c.args.names.now) in
@@ -20,12 +20,19 @@ returns-clause-does g c setting o =
     let C : World → Type 0 = Both (g.N.Nodes.stands c.leave_set.new.nodes) (g.M.Names.stands c.leave_set.new.names) in
     let D : World → Type 0 = Both (g.N.Nodes.stands c.drop_plain.new.nodes) (g.M.Names.stands c.leave_set.new.names) in
     let change : World → World = λ w. without_left_over n (set_left n (put n (Task None) w)) in
-    let first = does_silent A B C (freed t) (task_valued setting n t (Some o)) (gone n) change _ _ c.free_part.ensures.does
-    (λ s stands mid. (
-      c.leave_set.ensures.stands (freed t s).world mid,
-      sym (task_left_is setting n o (silent (put n (Task None)) (freed t s)) (g.met.M.Names.no_tasks c.free_part.new.names (freed t s).world n mid.1)),
-    )) in
-    does_then A C D (task_valued setting n t (Some o)) (gone n) (λ s. s) _ _ _ first c.drop_plain.ensures.does
+    let free = c.free_part.ensures.does in
+    let drop = c.drop_plain.ensures.does in
+    record {
+      items = free.items ++ drop.items;
+      told = tells_then _ _ _ free.items drop.items free.told drop.told;
+      moves = λ setting o.
+          let first = moves_silent A B C (freed t) (task_valued setting n t (Some o)) (gone n) change free.items free.moves
+          (λ s stands mid. (
+            c.leave_set.ensures.stands (freed t s).world mid,
+            sym (task_left_is setting n o (silent (put n (Task None)) (freed t s)) (g.met.M.Names.no_tasks c.free_part.new.names (freed t s).world n mid.1)),
+          )) in
+          moves_then A C D (task_valued setting n t (Some o)) (gone n) (λ s. s) free.items drop.items first drop.moves;
+    }
 
 pub returns-clause-kept : goal.returns-clause-kept
 returns-clause-kept g c =

@@ -1,0 +1,145 @@
+-- One part of what is done after another.
+use Rattle.std.proofs.Common.{◌≡◌, ◌∙◌, sym, ap, subst, refl, ℕ, List, [], ◌++◌, Option, None, Some, true, append_assoc}
+use Rattle.std.proofs.lemmas.List.{append-nil}
+use Rattle.kj_base.specs.Counts.{HasLacked}
+use Rattle.kj_base.specs.Record.{Item, Tells}
+use Rattle.kj_model.specs.World.{World, State, Setting}
+use Rattle.kj_model.specs.Changes.{silent}
+use Rattle.promise_walks.specs.Walks.{Moves}
+use Rattle.promise_walks.specs.Values.{Valued, Rule, Goes, Lacks, gave, setting_of}
+use Rattle.promise_walks.proofs.Composed.{tells_none, tells_then}
+use Rattle.promise_walks.proofs.Answering.{agrees_append}
+use Rattle.promise_turns.specs.Acting.{Acts}
+
+-- an evaluation, and then a change that asks for no answer
+pub acts_then : {X : Type 0} (Old Mid New P : World → Type 0) (rule : Rule) (From : Setting → State → Type 0) (valued : Setting → State → Valued X) (x : X) (change f : Setting → State → State) (xs ys : List Item) (a b c : Option (List Item)) (k l m : ℕ)
+    → Tells a xs b → Tells b ys c → l ≡ k → m ≡ l → Goes Old Mid rule valued (gave x) xs
+    → ((setting : Setting) → Moves (λ w. Mid w × P w) New (f setting) (λ s. s) ys)
+    → ((setting : Setting) (s : State) → From setting s → (valued setting s).1 ≡ Some x → P (valued setting s).0.world)
+    → ((setting : Setting) (s : State) → Old s.world → From setting s → (valued setting s).1 ≡ Some x → f setting (valued setting s).0 ≡ change setting s)
+    → Acts Old New rule From change (λ s. s) a c k m
+acts_then {X} Old Mid New P rule From valued x change f xs ys a b c k l m told then none still goes moves holds same = record {
+  items = xs ++ ys;
+  missing = None;
+  told = tells_then a b c xs ys told then;
+  lacks = still ∙ none;
+  goes = λ answer s old from agrees missing.
+      let setting : Setting = setting_of rule answer in
+      let split = agrees_append answer s.past xs ys agrees in
+      let r = goes answer s old split.0 in
+      let here : r.state ≡ (valued setting s).0 = ap (λ (v : Valued X). v.0) r.ends in
+      let given : (valued setting s).1 ≡ Some x = sym (ap (λ (v : Valued X). v.1) r.ends) in
+      let p = subst (λ (t : State). P t.world) (sym here) (holds setting s from given) in
+      let q = moves setting r.state (r.stands, p) in
+      record {
+        state = q.state;
+        stands = q.stands;
+        past_is = q.past_is ∙ ap (λ (l : List Item). l ++ ys) r.past_is ∙ append_assoc s.past xs ys;
+        ends = q.ends ∙ ap (f setting) here ∙ same setting s old from given;
+      };
+}
+
+-- an evaluation that found no memory, and nothing more
+pub acts_lacking : {X : Type 0} (Old New : World → Type 0) (rule : Rule) (From : Setting → State → Type 0) (valued : Setting → State → Valued X) (change : Setting → State → State) (xs : List Item) (a b : Option (List Item)) (k l : ℕ)
+    → Tells a xs b → HasLacked true k l → Lacks Old New rule valued xs
+    → ((setting : Setting) (s : State) → Old s.world → From setting s → (valued setting s).1 ≡ None → (valued setting s).0 ≡ change setting s)
+    → Acts Old New rule From change (λ s. s) a b k l
+acts_lacking {X} Old New rule From valued change xs a b k l told rose lacks same = record {
+  items = xs;
+  missing = Some lacks.step;
+  told = told;
+  lacks = rose;
+  goes = λ answer s old from agrees missing.
+      let setting : Setting = setting_of rule answer in
+      let r = lacks.moves answer s old agrees missing in
+      let given : (valued setting s).1 ≡ None = sym (ap (λ (v : Valued X). v.1) r.ends) in
+      record {
+        state = r.state;
+        stands = r.stands;
+        past_is = r.past_is;
+        ends = ap (λ (v : Valued X). v.0) r.ends ∙ same setting s old from given;
+      };
+}
+
+-- a change that asks for no answer
+pub acts_once : (Old New P : World → Type 0) (rule : Rule) (From : Setting → State → Type 0) (change : Setting → State → State) (f : State → State) (ys : List Item) (a b : Option (List Item)) (k l : ℕ)
+    → Tells a ys b → l ≡ k → Moves (λ w. Old w × P w) New f (λ s. s) ys
+    → ((setting : Setting) (s : State) → Old s.world → From setting s → P s.world)
+    → ((setting : Setting) (s : State) → Old s.world → From setting s → f s ≡ change setting s)
+    → Acts Old New rule From change (λ s. s) a b k l
+acts_once Old New P rule From change f ys a b k l told still moves holds same = record {
+  items = ys;
+  missing = None;
+  told = told;
+  lacks = still;
+  goes = λ answer s old from agrees missing.
+      let setting : Setting = setting_of rule answer in
+      let q = moves s (old, holds setting s old from) in
+      record { state = q.state; stands = q.stands; past_is = q.past_is; ends = q.ends ∙ same setting s old from };
+}
+
+-- nothing is told
+pub acts_silent : {E : Type 0} (Old New : World → Type 0) (rule : Rule) (From : Setting → State → Type 0) (change : Setting → State → E) (view : State → E) (g : World → World) (a : Option (List Item)) (k : ℕ)
+    → ((setting : Setting) (s : State) → Old s.world → From setting s → New (g s.world) × (view (silent g s) ≡ change setting s))
+    → Acts Old New rule From change view a a k k
+acts_silent Old New rule From change view g a k same = record {
+  items = [];
+  missing = None;
+  told = tells_none a;
+  lacks = refl;
+  goes = λ answer s old from agrees missing.
+      let q = same (setting_of rule answer) s old from in
+      record { state = silent g s; stands = q.0; past_is = sym (append-nil s.past); ends = q.1 };
+}
+
+-- of fewer states
+pub acts_less : {E : Type 0} (Old New : World → Type 0) (rule : Rule) (From Less : Setting → State → Type 0) (change : Setting → State → E) (view : State → E) (a b : Option (List Item)) (k l : ℕ)
+    → ((setting : Setting) (s : State) → Old s.world → Less setting s → From setting s)
+    → Acts Old New rule From change view a b k l → Acts Old New rule Less change view a b k l
+acts_less Old New rule From Less change view a b k l less d = record {
+  items = d.items;
+  missing = d.missing;
+  told = d.told;
+  lacks = d.lacks;
+  goes = λ answer s old from agrees missing. d.goes answer s old (less (setting_of rule answer) s old from) agrees missing;
+}
+
+-- and then a change that isn't told
+pub acts_after : {E : Type 0} (Old Then New : World → Type 0) (rule : Rule) (From : Setting → State → Type 0) (change : Setting → State → State) (whole : Setting → State → E) (view : State → E) (h : World → World) (a b : Option (List Item)) (k l : ℕ)
+    → Acts Old Then rule From change (λ s. s) a b k l
+    → ((w : World) → Then w → New (h w))
+    → ((setting : Setting) (s : State) → New (h (change setting s).world) → view (silent h (change setting s)) ≡ whole setting s)
+    → Acts Old New rule From whole view a b k l
+acts_after Old Then New rule From change whole view h a b k l d ends same = record {
+  items = d.items;
+  missing = d.missing;
+  told = d.told;
+  lacks = d.lacks;
+  goes = λ answer s old from agrees missing.
+      let setting : Setting = setting_of rule answer in
+      let r = d.goes answer s old from agrees missing in
+      record {
+        state = silent h r.state;
+        stands = ends r.state.world r.stands;
+        past_is = r.past_is;
+        ends = ap (λ (t : State). view (silent h t)) r.ends ∙ same setting s (subst (λ (t : State). New (h t.world)) r.ends (ends r.state.world r.stands));
+      };
+}
+
+-- and before that one that isn't told
+pub acts_before : {E : Type 0} (Old Mid New : World → Type 0) (rule : Rule) (From Fires : Setting → State → Type 0) (change whole : Setting → State → E) (view : State → E) (g : World → World) (a b : Option (List Item)) (k l : ℕ)
+    → Acts Mid New rule Fires change view a b k l
+    → ((w : World) → Old w → Mid (g w))
+    → ((setting : Setting) (s : State) → Old s.world → From setting s → Fires setting (silent g s) × (change setting (silent g s) ≡ whole setting s))
+    → Acts Old New rule From whole view a b k l
+acts_before Old Mid New rule From Fires change whole view g a b k l d begins same = record {
+  items = d.items;
+  missing = d.missing;
+  told = d.told;
+  lacks = d.lacks;
+  goes = λ answer s old from agrees missing.
+      let setting : Setting = setting_of rule answer in
+      let p = same setting s old from in
+      let r = d.goes answer (silent g s) (begins s.world old) p.0 agrees missing in
+      record { state = r.state; stands = r.stands; past_is = r.past_is; ends = r.ends ∙ p.1 };
+}

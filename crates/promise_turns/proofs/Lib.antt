@@ -1,0 +1,4 @@
+pub mod Acted
+pub mod Outliving
+pub mod Sided
+pub mod Taken

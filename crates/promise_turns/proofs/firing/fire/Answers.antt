@@ -1,0 +1,18 @@
+use Rattle.std.proofs.Common.{◌≡◌, ◌∙◌, sym, ap, ℕ, Option, None}
+use Rattle.kj_model.specs.Nodes.{Form, form_at}
+use Rattle.kj_model.specs.World.{World, State, Setting}
+use Rattle.kj_model.specs.Fire.{fire_form}
+use Rattle.promise_walks.specs.Walks.{Both}
+use Rattle.promise_turns.specs.Events.{FromTaken, fired}
+use Rattle.promise_turns.proofs.Acted.{acts_silent}
+use Rattle.promise_turns.proofs.firing.fire.Goals as goal
+
+wait_is : (n : ℕ) (setting : Setting) (s : State) → n ≡ 0 → form_at 0 s.world.nodes ≡ None → fired n setting s ≡ s
+wait_is n setting s zero none = ap (λ (m : ℕ). fire_form setting n (form_at m s.world.nodes) s) zero ∙ ap (λ (o : Option Form). fire_form setting n o s) none
+
+pub returns-then-node-eq0-clause-acts : goal.returns-then-node-eq0-clause-acts
+returns-then-node-eq0-clause-acts g c =
+    let n = c.args.node.number.0 in
+    let A : World → Type 0 = Both (g.N.Nodes.stands c.args.over.now.nodes) (g.M.Names.stands c.args.over.now.names) in
+    acts_silent A A g.N.Nodes.rule (FromTaken n) (fired n) (λ s. s) (λ w. w) _ _
+    (λ setting s stands from. (stands, sym (wait_is n setting s c.if-node-eq0.true from.2)))

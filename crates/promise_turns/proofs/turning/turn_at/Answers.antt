@@ -1,0 +1,31 @@
+use Rattle.std.proofs.Common.{sym, ap, subst, refl, Bool}
+use Rattle.kj_model.specs.World.{World}
+use Rattle.kj_model.specs.Changes.{silent}
+use Rattle.kj_model.specs.Calls.{turned_by}
+use Rattle.promise_walks.specs.Walks.{Both}
+use Rattle.promise_firing.specs.Events.{event_ended}
+use Rattle.promise_turns.specs.declared.turned.Turned.TheVariants.{Fired, NoMemory}
+use Rattle.promise_turns.specs.Events.{FromTaken, fired}
+use Rattle.promise_turns.specs.Turns.{turned_as, turned_at}
+use Rattle.promise_turns.proofs.Acted.{acts_after}
+use Rattle.promise_turns.proofs.turning.turn_at.Goals as goal
+
+pub returns-then-is_stopped-clause-turns : goal.returns-then-is_stopped-clause-turns
+returns-then-is_stopped-clause-turns g c =
+    let n = c.args.event.number.0 in
+    let A : World → Type 0 = Both (g.N.Nodes.stands c.args.over.now.nodes) (g.M.Names.stands c.args.over.now.names) in
+    let B : World → Type 0 = Both (g.N.Nodes.stands c.fire.new.over.nodes) (g.M.Names.stands c.fire.new.over.names) in
+    let C : World → Type 0 = Both (g.N.Nodes.stands c.end.new.over.nodes) (g.M.Names.stands c.end.new.over.names) in
+    acts_after A B C g.N.Nodes.rule (FromTaken n) (fired n) (turned_at n) (turned_as NoMemory) event_ended _ _ _ _ c.fire.ensures.acts
+    (λ w stands. (c.end.ensures.nodes w stands.0, subst (λ names. g.M.Names.stands names (event_ended w)) (sym c.end.ensures.names) (g.met.M.Names.nodes_free c.fire.new.over.names w (event_ended w) refl stands.1)))
+    (λ setting s stands. ap (λ (b : Bool). (silent event_ended (fired n setting s), turned_by b)) (c.if-is_stopped.ensures (event_ended (fired n setting s).world) stands.1))
+
+pub returns-clause-turns : goal.returns-clause-turns
+returns-clause-turns g c =
+    let n = c.args.event.number.0 in
+    let A : World → Type 0 = Both (g.N.Nodes.stands c.args.over.now.nodes) (g.M.Names.stands c.args.over.now.names) in
+    let B : World → Type 0 = Both (g.N.Nodes.stands c.fire.new.over.nodes) (g.M.Names.stands c.fire.new.over.names) in
+    let C : World → Type 0 = Both (g.N.Nodes.stands c.end.new.over.nodes) (g.M.Names.stands c.end.new.over.names) in
+    acts_after A B C g.N.Nodes.rule (FromTaken n) (fired n) (turned_at n) (turned_as Fired) event_ended _ _ _ _ c.fire.ensures.acts
+    (λ w stands. (c.end.ensures.nodes w stands.0, subst (λ names. g.M.Names.stands names (event_ended w)) (sym c.end.ensures.names) (g.met.M.Names.nodes_free c.fire.new.over.names w (event_ended w) refl stands.1)))
+    (λ setting s stands. ap (λ (b : Bool). (silent event_ended (fired n setting s), turned_by b)) (c.if-is_stopped.ensures (event_ended (fired n setting s).world) stands.1))

@@ -1,0 +1,3 @@
+pub mod Acting
+pub mod Events
+pub mod Turns

@@ -1,0 +1,90 @@
+//! Turns.
+ghost use Rattle.std.specs.Prelude.{◌≡◌, []};
+ghost use Rattle.kj_base.specs.Queue.{head_of};
+ghost use Rattle.kj_model.specs.World.{World};
+ghost use Rattle.kj_model.specs.Calls.{turn};
+ghost use Rattle.promise_nodes.specs.Kept.{OnlyRises};
+ghost use Rattle.promise_nodes.specs.Shown.{link_number};
+ghost use Rattle.promise_walks.specs.Walks.{Both};
+ghost use Rattle.promise_firing.specs.Events.{event_ended, event_taken};
+ghost use Rattle.promise_turns.specs.Acting.{Acts};
+ghost use Rattle.promise_turns.specs.Events.{FromTaken};
+ghost use Rattle.promise_turns.specs.Turns.{MayTurn, turned_as, turned_at};
+
+use crate::firing::fire;
+use crate::turned::Turned;
+use kj_base::Link;
+use promise_commands::Steps;
+use promise_eval::Evaluator;
+use promise_firing::{end_event, take_event};
+use promise_names::Names;
+use promise_nodes::Nodes;
+
+fn is_stopped<N: Nodes + Drop, M: Names + Drop>(over: &Evaluator<N, M>) -> bool
+    ensures { (w : World) → M.stands over.now.names w → result ≡ w.stopped }
+{
+    over.ground.names().is_stopped()
+}
+
+// The queue is rewound, and its first event is taken and fires; its node, or number 0 for the wait.
+fn take<N: Nodes + Drop, M: Names + Drop>(over: &mut Evaluator<N, M>) -> Option<Link>
+    ensures head { (w : World) → N.stands over.old.nodes w → link_number result ≡ head_of w.queue }
+    ensures nodes { (w : World) → N.stands over.old.nodes w → N.stands over.new.nodes (event_taken (link_number result) w) }
+    ensures names { over.new.names ≡ over.old.names }
+    ensures plain { OnlyRises (N.is_plain over.old.nodes) (N.is_plain over.new.nodes) }
+    ensures slots { N.slots over.new.nodes ≡ N.slots over.old.nodes }
+{
+    take_event(&mut over.ground.keepers.nodes)
+}
+
+// No event fires any more, and the queue is rewound.
+fn end<N: Nodes + Drop, M: Names + Drop>(over: &mut Evaluator<N, M>)
+    ensures nodes { (w : World) → N.stands over.old.nodes w → N.stands over.new.nodes (event_ended w) }
+    ensures names { over.new.names ≡ over.old.names }
+    ensures plain { OnlyRises (N.is_plain over.old.nodes) (N.is_plain over.new.nodes) }
+    ensures slots { N.slots over.new.nodes ≡ N.slots over.old.nodes }
+{
+    end_event(&mut over.ground.keepers.nodes);
+}
+
+// The event that was taken fires and ends.
+fn turn_at<N: Nodes + Drop, M: Names + Drop, S: Steps>(
+    over: &mut Evaluator<N, M>,
+    event: Link,
+    steps: &mut S,
+) -> Turned
+    requires none_over { M.over over.old.names ≡ [] }
+    ensures turns { Acts (Both (N.stands over.old.nodes) (M.stands over.old.names)) (Both (N.stands over.new.nodes) (M.stands over.new.names)) N.rule (FromTaken event.number.0) (turned_at event.number.0) (turned_as result) (S.told steps.old) (S.told steps.new) (S.lacks steps.old) (S.lacks steps.new) }
+    ensures plain { OnlyRises (N.is_plain over.old.nodes) (N.is_plain over.new.nodes) }
+    ensures slots { N.slots over.new.nodes ≡ N.slots over.old.nodes }
+    ensures over { M.over over.new.names ≡ M.over over.old.names }
+{
+    fire(over, event, steps);
+    end(over);
+    if is_stopped(over) {
+        return Turned::NoMemory;
+    }
+    Turned::Fired
+}
+
+/// One turn of the loop (kj/async.h, `EventLoop::turn`): the first event of the queue is taken and fires, and what it
+/// arms depth-first goes before all others. A step that finds no memory stops the loop. Between two turns nothing is
+/// left over. No keeper has lists of ended requests yet, so the contract speaks of turns whose event is no Request's.
+pub fn turn<N: Nodes + Drop, M: Names + Drop, S: Steps>(
+    over: &mut Evaluator<N, M>,
+    steps: &mut S,
+) -> Turned
+    requires none_over { M.over over.old.names ≡ [] }
+    ensures turns { Acts (Both (N.stands over.old.nodes) (M.stands over.old.names)) (Both (N.stands over.new.nodes) (M.stands over.new.names)) N.rule MayTurn turn (turned_as result) (S.told steps.old) (S.told steps.new) (S.lacks steps.old) (S.lacks steps.new) }
+    ensures plain { OnlyRises (N.is_plain over.old.nodes) (N.is_plain over.new.nodes) }
+    ensures slots { N.slots over.new.nodes ≡ N.slots over.old.nodes }
+    ensures over { M.over over.new.names ≡ [] }
+{
+    if is_stopped(over) {
+        return Turned::Stopped;
+    }
+    match take(over) {
+        Some(event) => turn_at(over, event, steps),
+        None => Turned::Idle,
+    }
+}
