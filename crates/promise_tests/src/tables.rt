@@ -29,7 +29,10 @@ fn table_graph(alloc: Global, limits: Limits) -> Result<Graph<NodeTable, EventLi
         Ok(queue) => queue,
         Err(none) => return Err(none),
     };
-    Graph::new(alloc, limits, store, queue)
+    match Graph::new(alloc, limits, store, queue) {
+        Ok(graph) => Ok(graph),
+        Err(none) => Err(none),
+    }
 }
 
 /// For a loop with these limits, in which nothing was built.
