@@ -35,6 +35,18 @@ fn table_graph(alloc: Global, limits: Limits) -> Result<Graph<NodeTable, EventLi
     }
 }
 
+// No names.
+fn no_names(alloc: Global, limits: Limits) -> Result<NameTable, NoMemory>
+    ensures stands { IfOk result (λ n. NamesStand n (new_world limits)) }
+    ensures no_promises { IfOk result (λ n. n.entries ≡ []) }
+    ensures none_over { IfOk result (λ n. trees n.over ≡ []) }
+{
+    match NameTable::new(alloc, limits) {
+        Ok(names) => Ok(names),
+        Err(none) => Err(none),
+    }
+}
+
 /// For a loop with these limits, in which nothing was built.
 pub fn evaluator_over_tables(alloc: Global, limits: Limits) -> Result<TableEvaluator, NoMemory>
     requires few { limits.slots ≤ MAX_SLOTS }
@@ -43,7 +55,7 @@ pub fn evaluator_over_tables(alloc: Global, limits: Limits) -> Result<TableEvalu
     ensures none_over { IfOk result (λ e. trees e.names.over ≡ []) }
 {
     let graph = table_graph(alloc, limits)?;
-    let names = NameTable::new(alloc, limits)?;
+    let names = no_names(alloc, limits)?;
     let ground = Ground::new(alloc, graph, names)?;
     Evaluator::new(alloc, ground)
 }
