@@ -1,12 +1,9 @@
--- The commands of scripts and steps, all of them, and which of them each Rust variant is.
-use Rattle.std.specs.Prelude.{ℕ, List, Option, None, Some, map}
+-- The commands of scripts and steps, as data.
+use Rattle.std.specs.Prelude.{ℕ, List, Option, None, Some}
 use Rattle.kj_base.specs.declared.outcomes.Exception.{Exception}
 use Rattle.kj_base.specs.declared.outcomes.Outcome.{Outcome}
-use Rattle.kj_base.specs.declared.actions.Ending.{Ending}
+use Rattle.kj_base.specs.declared.endings.Ending.{Ending}
 use Rattle.kj_base.specs.declared.numbers.StepId.{StepId}
-use Rattle.kj_base.specs.declared.commands.Command.{Command as CommandCase}
-use Rattle.kj_base.specs.declared.commands.Command.TheVariants.{Later as LaterCase, Then as ThenCase, Detach as DetachCase}
-use Rattle.kj_base.specs.declared.actions.Action.{Action as ActionCase}
 
 -- names and steps are numbers
 pub data Command : Type 0 where
@@ -49,13 +46,3 @@ pub record Action : Type 0 where
 abbrev pub step_of : Option StepId → Option ℕ
 step_of None = None
 step_of (Some step) = Some step.0
-
--- the command that each variant is
-abbrev pub command_of : CommandCase → Command
-command_of (LaterCase name) = Later name.0
-command_of (ThenCase name source value error) = Then name.0 source.0 (step_of value) (step_of error)
-command_of (DetachCase source) = Detach source.0
-
--- the action of each Rust action
-abbrev pub action_of : ActionCase → Action
-action_of action = record { commands = map command_of action.commands; ending = action.ending }

@@ -34,7 +34,8 @@ abbrev pub one_if : Bool → ℕ
 one_if true = 1
 one_if false = 0
 
--- a row needs a free arena where it is anew, or where its count is above the place of the node before which it goes
+-- a row needs a free arena where it is anew, or where its count is above the place of the node
+-- before which it goes
 abbrev pub needs_over : ℕ → Option Spot → ℕ
 needs_over count None = 1
 needs_over count (Some x) = one_if (nat_lt x.place count)

@@ -1,9 +1,8 @@
 //! Values, commands and traits that every layer of Kirstelme speaks of.
 #![tactic(auto)]
 
-mod actions;
 mod bytes;
-mod commands;
+mod endings;
 mod limits;
 mod memory;
 mod nodes;
@@ -11,16 +10,12 @@ mod numbers;
 mod numerals;
 mod outcomes;
 mod queue;
-mod refused;
-mod script;
 mod sent;
-mod steps;
 mod store;
 mod words;
 
-pub use actions::{Action, Commands, Ending};
 pub use bytes::Bytes;
-pub use commands::Command;
+pub use endings::Ending;
 pub use limits::{INPUT_LIMIT, MAX_NAMES, MAX_SLOTS, NAMES, SLOTS};
 pub use memory::NoMemory;
 pub use nodes::{Content, Form, Link, Node, Row, Slot, Stage};
@@ -28,9 +23,6 @@ pub use numbers::{Limits, Name, NodeId, StepId};
 pub use numerals::{digit_count, is_word, read_decimal};
 pub use outcomes::{Exception, Kind, Outcome};
 pub use queue::{Queue, take_after_two_last};
-pub use refused::Refused;
-pub use script::{Line, Lines, NumberedLine, Script};
 pub use sent::Sent;
-pub use steps::Steps;
 pub use store::{Store, place_two};
 pub use words::Words;

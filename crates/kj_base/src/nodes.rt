@@ -15,7 +15,8 @@ pub struct Link {
     pub number: NodeId,
 }
 
-/// What an eager promise, a wrapped one or a hub has: its tree, and once its event has fired the outcome.
+/// What an eager promise, a wrapped one or a hub has: its tree, and once its event has fired the
+/// outcome.
 #[derive(Drop)]
 pub enum Content {
     Tree(Link),

@@ -13,7 +13,8 @@ pub fn is_word(word: &[u8], name: &[u8]) -> bool
     word == name
 }
 
-/// The number below 2^64 that a word writes in decimal digits, without sign and without leading zeros.
+/// The number below 2^64 that a word writes in decimal digits, without sign and without leading
+/// zeros.
 pub fn read_decimal(word: &[u8]) -> Option<u64>
     ensures found { IfSome result (λ n. word.now ≡ decimal n) }
     ensures none { IfNone result ((n : ℕ) → n < 2 ^ 64 → word.now ≡ decimal n → ⊥) }

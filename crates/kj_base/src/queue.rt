@@ -10,7 +10,8 @@ pub trait Queue {
     /// Events are below it; no call changes it.
     ghost size: { Self → ℕ };
 
-    /// Depth first: at the first point, and both points rise. Nothing changes where the event stands there already.
+    /// Depth first: at the first point, and both points rise. Nothing changes where the event
+    /// stands there already.
     fn arm_first(&mut self, event: u32)
         requires { event < size self.old }
         ensures armed { events self.new ≡ first_armed event (events self.old) }
@@ -46,12 +47,14 @@ pub trait Queue {
         ensures size { size self.new ≡ size self.old };
 }
 
-/// Arms two events last and takes one: the one that was armed later comes first where the queue was empty.
+/// Arms two events last and takes one: the one that was armed later comes first where the queue was
+/// empty.
 pub fn take_after_two_last<Q: Queue>(queue: &mut Q, first: u32, second: u32) -> Option<u32>
     requires first_in { first < Q.size queue.old }
     requires second_in { second < Q.size queue.old }
     ensures head { result ≡ head_of (last_armed second (last_armed first (Q.events queue.old))) }
-    ensures rest { Q.events queue.new ≡ taken (last_armed second (last_armed first (Q.events queue.old))) }
+    ensures rest { Q.events queue.new ≡ taken (last_armed second
+        (last_armed first (Q.events queue.old))) }
 {
     queue.arm_last(first);
     queue.arm_last(second);

@@ -4,7 +4,8 @@ ghost use Rattle.std.specs.Prelude.{◌≡◌, ◌<◌, ◌≤◌, [], ◌∷◌
 use arrayvec::ArrayVec;
 use std::marker::Model;
 
-/// 0 to 16 words of 64 bits; the empty list is the value of a promise that tells nothing but its end.
+/// 0 to 16 words of 64 bits; the empty list is the value of a promise that tells nothing but its
+/// end.
 #[derive(Drop)]
 pub struct Words {
     items: ArrayVec<u64, 16>,

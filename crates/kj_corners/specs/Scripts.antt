@@ -1,7 +1,7 @@
 -- Scripts on corners of the definitions: each has another log under one wrong definition.
 use Rattle.std.specs.Prelude.{ℕ, List, [], ◌∷◌, codes, Some, None}
 use Rattle.kj_base.specs.declared.outcomes.Kind.TheVariants.{Failed}
-use Rattle.kj_base.specs.declared.actions.Ending.TheVariants.{Value as Give}
+use Rattle.kj_base.specs.declared.endings.Ending.TheVariants.{Value as Give}
 use Rattle.kj_base.specs.Commands.{Now, Broken, Later, Last, Pair, Then, Eager, Fork, Branch, Race, Fast, Fulfil, NewCanceler, Wrap, Cancel, Detach, Drop, Ask, Begin}
 use Rattle.kj_model.specs.Log.{Do, Turn, RunTurns, Wait, Script}
 use Rattle.kj_model.specs.Scripts.{at, body, exception, lines, promised, script}

@@ -1,4 +1,5 @@
-//! Worked scripts on corners of the definitions: each has another log under one wrong definition. The functions here
+//! Worked scripts on corners of the definitions: each has another log under one wrong definition.
+//! The functions here
 //! have no body, and their contracts say what each script's log is.
 #![tactic(auto)]
 

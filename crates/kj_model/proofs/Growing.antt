@@ -2,8 +2,8 @@
 use Rattle.std.proofs.Common.{zero, suc, ◌≡◌, ℕ, List, [], ◌∷◌, ◌++◌, Bool, true, false, Option, None, Some, refl, sym, ap, ◌∙◌, reverse}
 use Rattle.kj_base.specs.declared.outcomes.Outcome.{Outcome}
 use Rattle.kj_base.specs.Commands.{Command, Now, Broken as BrokenLine, Later as LaterLine, Last as LastLine, Pair, Then as ThenLine, Chain as ChainLine, Eager as EagerLine, Fork, Branch as BranchLine, Race as RaceLine, All, Fast, Fulfil, Reject, DropCell, NewSet, Add, Clear, OnEmpty, NewCanceler, Wrap as WrapLine, Cancel, Detach, Drop, Ask, Begin, Stop, Reply, Action}
-use Rattle.kj_base.specs.declared.actions.Ending.{Ending}
-use Rattle.kj_base.specs.declared.actions.Ending.TheVariants.{Value as Give, Throw, Promise as PromiseEnd, Input}
+use Rattle.kj_base.specs.declared.endings.Ending.{Ending}
+use Rattle.kj_base.specs.declared.endings.Ending.TheVariants.{Value as Give, Throw, Promise as PromiseEnd, Input}
 use Rattle.kj_model.specs.Nodes.{Form, Tree, Kept, Waits, Fired, Keeps, Gone, Ready, Later, Last, Cell, Branch, Then, Chain, Eager, Wrap, Hub, Side, Race, Join, Task, Request, form_at, parts_of}
 use Rattle.kj_model.specs.World.{World, State, Setting, Held, Promise, CellOf, AskCell, HubOf, Group, Canceler, RequestOf, held_at}
 use Rattle.kj_base.specs.Record.{Item, Run, Free}

@@ -21,7 +21,6 @@ pub mod HubWorld
 pub mod Owned
 pub mod OwnedTest
 pub mod Grown
-pub mod Cases
 pub mod Scripts
 pub mod OrderScripts
 pub mod SharingScripts

@@ -1,7 +1,7 @@
 -- Scripts, and the log of a script.
 use Rattle.std.specs.Prelude.{ℕ, zero, suc, ◌+◌, List, [], ◌∷◌, ◌++◌, Option, None, Some, Bool, true, false, ◌==◌, length, drop, map, filter}
 use Rattle.kj_base.specs.Commands.{Command, Action}
-use Rattle.kj_base.specs.declared.actions.Ending.TheVariants.{Input}
+use Rattle.kj_base.specs.declared.endings.Ending.TheVariants.{Input}
 use Rattle.kj_model.specs.World.{World, State, Setting, Spot, Row, Asked, Ended, new_state}
 use Rattle.kj_base.specs.Record.{Item, Run, Free}
 use Rattle.kj_base.specs.declared.numbers.Limits.{Limits}

@@ -2,7 +2,7 @@
 use Rattle.std.specs.Prelude.{ℕ, List, [], ◌∷◌, codes, Some, None}
 use Rattle.kj_base.specs.declared.outcomes.Kind.TheVariants.{Failed}
 use Rattle.kj_base.specs.declared.outcomes.Outcome.TheVariants.{Value}
-use Rattle.kj_base.specs.declared.actions.Ending.TheVariants.{Value as Give}
+use Rattle.kj_base.specs.declared.endings.Ending.TheVariants.{Value as Give}
 use Rattle.kj_base.specs.Commands.{Now, Later, Last, Pair, Then, Chain, Eager, Race, Fulfil, Reject, DropCell, Detach, Drop, Ask, Reply}
 use Rattle.kj_model.specs.Log.{Do, Turn, RunTurns, Wait, Script}
 use Rattle.kj_model.specs.Scripts.{at, body, exception, limits, lines, promised, script}

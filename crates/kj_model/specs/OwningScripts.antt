@@ -1,7 +1,7 @@
 -- Scripts on sets, cancelers and dropped promises.
 use Rattle.std.specs.Prelude.{ℕ, List, [], ◌∷◌, codes, Some, None}
 use Rattle.kj_base.specs.declared.outcomes.Kind.TheVariants.{Failed}
-use Rattle.kj_base.specs.declared.actions.Ending.TheVariants.{Value as Give}
+use Rattle.kj_base.specs.declared.endings.Ending.TheVariants.{Value as Give}
 use Rattle.kj_base.specs.Commands.{Broken, Later, Pair, Then, Chain, Eager, Fork, Branch, Fulfil, NewSet, Add, Clear, OnEmpty, NewCanceler, Wrap, Cancel, Detach, Drop}
 use Rattle.kj_model.specs.Log.{Do, Turn, RunTurns, Wait, Script}
 use Rattle.kj_model.specs.Scripts.{at, body, exception, lines, promised, script}

@@ -1,6 +1,6 @@
 -- Scripts on refusals, and on places for nodes.
 use Rattle.std.specs.Prelude.{ℕ, List, [], ◌∷◌, codes, Some, None}
-use Rattle.kj_base.specs.declared.actions.Ending.TheVariants.{Value as Give}
+use Rattle.kj_base.specs.declared.endings.Ending.TheVariants.{Value as Give}
 use Rattle.kj_base.specs.Commands.{Now, Later, Pair, Then, Chain, Race, All, Fulfil, Detach, Drop, Begin}
 use Rattle.kj_model.specs.Log.{Do, Turn, Wait, Script}
 use Rattle.kj_model.specs.Scripts.{at, body, limits, lines, script}

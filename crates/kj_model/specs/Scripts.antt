@@ -2,8 +2,8 @@
 use Rattle.std.specs.Prelude.{ℕ, List, [], ◌∷◌, ◌++◌, Option, Some, flat_map}
 use Rattle.kj_base.specs.declared.outcomes.Kind.{Kind}
 use Rattle.kj_base.specs.declared.outcomes.Exception.{Exception}
-use Rattle.kj_base.specs.declared.actions.Ending.{Ending}
-use Rattle.kj_base.specs.declared.actions.Ending.TheVariants.{Promise}
+use Rattle.kj_base.specs.declared.endings.Ending.{Ending}
+use Rattle.kj_base.specs.declared.endings.Ending.TheVariants.{Promise}
 use Rattle.kj_base.specs.declared.numbers.Limits.{Limits}
 use Rattle.kj_base.specs.Commands.{Command}
 use Rattle.kj_model.specs.Log.{Line, Numbered, Body, Script}

@@ -1,7 +1,7 @@
 -- Scripts on races, joins and hubs.
 use Rattle.std.specs.Prelude.{ℕ, List, [], ◌∷◌, codes, Some, None}
 use Rattle.kj_base.specs.declared.outcomes.Kind.TheVariants.{Failed, Overloaded}
-use Rattle.kj_base.specs.declared.actions.Ending.TheVariants.{Value as Give}
+use Rattle.kj_base.specs.declared.endings.Ending.TheVariants.{Value as Give}
 use Rattle.kj_base.specs.Commands.{Now, Broken, Later, Pair, Then, Chain, Fork, Branch, Race, All, Fast, Fulfil, NewCanceler, Wrap, Cancel, Detach, Drop}
 use Rattle.kj_model.specs.Log.{Do, Turn, RunTurns, Wait, Script}
 use Rattle.kj_model.specs.Scripts.{at, body, exception, lines, promised, script}

@@ -4,8 +4,8 @@ use Rattle.kj_base.specs.declared.outcomes.Outcome.{Outcome}
 use Rattle.kj_base.specs.declared.outcomes.Outcome.TheVariants.{Value, Broken}
 use Rattle.kj_model.specs.Outcomes.{void, joined, promise_given, command_refused}
 use Rattle.kj_base.specs.Commands.{Command, Action}
-use Rattle.kj_base.specs.declared.actions.Ending.{Ending}
-use Rattle.kj_base.specs.declared.actions.Ending.TheVariants.{Value as Give, Throw, Promise, Input}
+use Rattle.kj_base.specs.declared.endings.Ending.{Ending}
+use Rattle.kj_base.specs.declared.endings.Ending.TheVariants.{Value as Give, Throw, Promise, Input}
 use Rattle.kj_model.specs.Nodes.{Form, Content, Tree, Kept, Fired, Keeps, Gone, Ready, Cell, Branch, Then, Eager, Wrap, Hub, Side, Race, Join, Entry, form_at, holds}
 use Rattle.kj_model.specs.World.{World, State, Setting, Held, Promise as PromiseOf, held_at, depth_of}
 use Rattle.kj_base.specs.Record.{Item, Run}

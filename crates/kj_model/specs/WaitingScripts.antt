@@ -2,7 +2,7 @@
 use Rattle.std.specs.Prelude.{ℕ, List, [], ◌∷◌, codes, Some, None}
 use Rattle.kj_base.specs.declared.outcomes.Kind.TheVariants.{Disconnected}
 use Rattle.kj_base.specs.declared.outcomes.Outcome.TheVariants.{Value, Broken as BrokenBy}
-use Rattle.kj_base.specs.declared.actions.Ending.TheVariants.{Value as Give}
+use Rattle.kj_base.specs.declared.endings.Ending.TheVariants.{Value as Give}
 use Rattle.kj_base.specs.Commands.{Later, Last, Pair, Then, Fulfil, Detach, Drop, Ask, Begin, Stop, Reply}
 use Rattle.kj_model.specs.Log.{Do, Turn, RunTurns, Wait, Script}
 use Rattle.kj_model.specs.Scripts.{at, body, exception, limits, lines, promised, script}

@@ -1,4 +1,5 @@
-//! The definitions of a loop. They are in `specs`; the functions here have no body, and their contracts are
+//! The definitions of a loop. They are in `specs`; the functions here have no body, and their
+//! contracts are
 //! scripts worked out by hand and laws of the definitions.
 #![tactic(auto)]
 

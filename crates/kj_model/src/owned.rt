@@ -8,7 +8,8 @@ ghost use Rattle.kj_model.specs.OwningScripts.{dropped_ahead_of_the_point, empty
 ghost use Rattle.kj_model.specs.RefusingScripts.{taken_and_unknown, named_twice, order_of_causes, outside_alone, path_of_eight, path_of_nine, two_leaves_in_a_table, two_leaves_in_arenas, request_in_one_arena, no_place_twice, chain_over_the_first_place, refused_in_a_step, full_by_places, full_of_names};
 ghost use Rattle.kj_model.specs.WaitingScripts.{name_taken_meanwhile, name_counts_meanwhile, request_ends, request_stopped, ask_abandoned, ask_replied, abandoned_name_is_free, awaited_again, request_of_a_promise, asks_in_order, ask_dropped_in_its_step, request_again};
 
-/// Each live node stands once, queues and hubs fit their worlds, and each number is live or was freed once.
+/// Each live node stands once, queues and hubs fit their worlds, and each number is live or was
+/// freed once.
 pub fn order_scripts_keep_it()
     ensures dependency_goes_first { always_owned table_fits dependency_goes_first ≡ true }
     ensures armed_in_order { always_owned table_fits armed_in_order ≡ true }
@@ -30,7 +31,8 @@ pub fn order_scripts_keep_it()
     ensures settled_once { always_owned arenas_fit settled_once ≡ true }
 {}
 
-/// Each live node stands once, queues and hubs fit their worlds, and each number is live or was freed once.
+/// Each live node stands once, queues and hubs fit their worlds, and each number is live or was
+/// freed once.
 pub fn sharing_scripts_keep_it()
     ensures loser_is_disarmed { always_owned arenas_fit loser_is_disarmed ≡ true }
     ensures loser_fires_without_effect { always_owned arenas_fit loser_fires_without_effect ≡ true }
@@ -44,7 +46,8 @@ pub fn sharing_scripts_keep_it()
     ensures hub_that_fires_stays { always_owned arenas_fit hub_that_fires_stays ≡ true }
     ensures hub_holds_its_branch { always_owned arenas_fit hub_holds_its_branch ≡ true }
     ensures hub_holds_what_fires { always_owned arenas_fit hub_holds_what_fires ≡ true }
-    ensures hub_fires_and_loses_its_branch { always_owned arenas_fit hub_fires_and_loses_its_branch ≡ true }
+    ensures hub_fires_and_loses_its_branch { always_owned arenas_fit hub_fires_and_loses_its_branch
+        ≡ true }
     ensures hub_holds_the_cancelled { always_owned arenas_fit hub_holds_the_cancelled ≡ true }
     ensures loser_takes_the_hub { always_owned arenas_fit loser_takes_the_hub ≡ true }
     ensures joins_of_none { always_owned arenas_fit joins_of_none ≡ true }
@@ -52,10 +55,12 @@ pub fn sharing_scripts_keep_it()
     ensures hub_over_a_given_promise { always_owned arenas_fit hub_over_a_given_promise ≡ true }
 {}
 
-/// Each live node stands once, queues and hubs fit their worlds, and each number is live or was freed once.
+/// Each live node stands once, queues and hubs fit their worlds, and each number is live or was
+/// freed once.
 pub fn owning_scripts_keep_it()
     ensures dropped_ahead_of_the_point { always_owned arenas_fit dropped_ahead_of_the_point ≡ true }
-    ensures empty_before_the_error_step { always_owned arenas_fit empty_before_the_error_step ≡ true }
+    ensures empty_before_the_error_step { always_owned arenas_fit empty_before_the_error_step
+        ≡ true }
     ensures clear_in_the_error_step { always_owned arenas_fit clear_in_the_error_step ≡ true }
     ensures one_promise_of_emptiness { always_owned arenas_fit one_promise_of_emptiness ≡ true }
     ensures cancelled_while_armed { always_owned arenas_fit cancelled_while_armed ≡ true }
@@ -70,7 +75,8 @@ pub fn owning_scripts_keep_it()
     ensures canceler_dropped { always_owned arenas_fit canceler_dropped ≡ true }
 {}
 
-/// Each live node stands once, queues and hubs fit their worlds, and each number is live or was freed once.
+/// Each live node stands once, queues and hubs fit their worlds, and each number is live or was
+/// freed once.
 pub fn refusing_scripts_keep_it()
     ensures taken_and_unknown { always_owned table_fits taken_and_unknown ≡ true }
     ensures named_twice { always_owned arenas_fit named_twice ≡ true }
@@ -88,7 +94,8 @@ pub fn refusing_scripts_keep_it()
     ensures full_of_names { always_owned table_fits full_of_names ≡ true }
 {}
 
-/// Each live node stands once, queues and hubs fit their worlds, and each number is live or was freed once.
+/// Each live node stands once, queues and hubs fit their worlds, and each number is live or was
+/// freed once.
 pub fn waiting_scripts_keep_it()
     ensures name_taken_meanwhile { always_owned arenas_fit name_taken_meanwhile ≡ true }
     ensures name_counts_meanwhile { always_owned arenas_fit name_counts_meanwhile ≡ true }

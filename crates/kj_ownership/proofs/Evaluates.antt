@@ -6,8 +6,8 @@ use Rattle.std.proofs.lemmas.Bool.{or_parts}
 use Rattle.std.proofs.lemmas.Bool.Decides.{nat_tests}
 use Rattle.kj_base.specs.declared.outcomes.Outcome.{Outcome}
 use Rattle.kj_base.specs.Commands.{Command, Action}
-use Rattle.kj_base.specs.declared.actions.Ending.{Ending}
-use Rattle.kj_base.specs.declared.actions.Ending.TheVariants.{Value as Give, Throw, Promise, Input}
+use Rattle.kj_base.specs.declared.endings.Ending.{Ending}
+use Rattle.kj_base.specs.declared.endings.Ending.TheVariants.{Value as Give, Throw, Promise, Input}
 use Rattle.kj_base.specs.Record.{Item, Run, Free}
 use Rattle.kj_model.specs.Nodes.{Entry, Form, Then, Race, Join, Side, Waits, Fired, Keeps, Gone, Hub, form_at, parts_of, parts_found, is_in}
 use Rattle.kj_model.specs.World.{World, State, Setting, depth_of}

@@ -1,6 +1,6 @@
 -- A refusal of some words is one of the same words.
 use Rattle.std.proofs.Common.{◌≡◌, ◌≤◌, ◌<◌, List, [], ◌∷◌, ℕ, zero, suc, Option, None, Some, IfNone, Bor, length, get_or, map, arith, refl, ◌∙◌}
-use Rattle.kj_base.specs.declared.script.Line.{Line}
+use Rattle.loop_core.specs.declared.asking.Line.{Line}
 use Rattle.kj_script.specs.ScriptText.{LineFits, line_words}
 
 abbrev pub NoLine : List (List ℕ) → Type 0

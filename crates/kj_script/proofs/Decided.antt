@@ -7,10 +7,10 @@ use Rattle.std.proofs.lemmas.Slice.Eq.{bytes_eq-Decides}
 use Rattle.std.proofs.lemmas.Fmt.{decimal_is_IsNumeral}
 use Rattle.kj_base.specs.declared.numbers.StepId.{StepId}
 use Rattle.kj_base.specs.declared.numbers.Name.{Name}
-use Rattle.kj_base.specs.declared.commands.Command.TheVariants.{Later, Then, Detach}
-use Rattle.kj_base.specs.declared.script.Line.{Line}
-use Rattle.kj_base.specs.declared.script.Line.TheVariants.{Do, Turn}
-use Rattle.kj_base.specs.declared.script.Script.{Script}
+use Rattle.loop_core.specs.declared.asking.Command.TheVariants.{Later, Then, Detach}
+use Rattle.loop_core.specs.declared.asking.Line.{Line}
+use Rattle.loop_core.specs.declared.asking.Line.TheVariants.{Do, Turn}
+use Rattle.loop_core.specs.declared.asking.Script.{Script}
 use Rattle.kj_script.specs.ScriptText.{step_word, StepFits, line_words, LineFits, words_of, is_remark, Means, MeanAll, numbered_from, IsScriptText, lines_of}
 
 -- something has this property, or nothing has

@@ -8,8 +8,8 @@ use Rattle.kj_model.specs.Apply.{Refused, apply}
 use Rattle.kj_model.specs.Calls.{Turned, Fired, Idle, turn, close}
 use Rattle.kj_model.specs.Log.{log_lines, limits_or, Numbered, Do, Turn, Logged, LogLine, Told as ToldLine, WasIdle, logged, told_since, asks_taken, ends_taken, gone_taken, each_ask, each_end, each_gone, all_taken, refused_line, turned_line, log_line, log_closed, passing, scripted}
 use Rattle.kj_model.specs.Text.{log_text, line_text}
-use Rattle.kj_base.specs.declared.script.NumberedLine.{NumberedLine}
-use Rattle.kj_model.specs.Cases.{numbered_of}
+use Rattle.loop_core.specs.declared.asking.NumberedLine.{NumberedLine}
+use Rattle.loop_core.specs.Cases.{numbered_of}
 use Rattle.kj_script.specs.Items.{item_of}
 use Rattle.kj_script.specs.declared.steps.Told.{Told}
 use Rattle.kj_script.specs.declared.steps.Told.TheVariants.{Ran, Freed}

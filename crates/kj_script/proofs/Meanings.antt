@@ -1,8 +1,8 @@
 -- Texts with their meanings, one after another.
 use Rattle.std.proofs.Common.{◌≡◌, ℕ, zero, suc, ◌+◌, ◌<◌, List, [], ◌∷◌, ◌++◌, length, take, get_or, Option, None, Some, arith, refl, ap, sym, subst, ◌∙◌}
 use Rattle.std.proofs.lemmas.List.{take_more, length-take-le}
-use Rattle.kj_base.specs.declared.script.Line.{Line}
-use Rattle.kj_base.specs.declared.script.NumberedLine.{NumberedLine}
+use Rattle.loop_core.specs.declared.asking.Line.{Line}
+use Rattle.loop_core.specs.declared.asking.NumberedLine.{NumberedLine}
 use Rattle.kj_script.specs.ScriptText.{Means, MeanAll, numbered_from}
 
 -- one text more, with its meaning

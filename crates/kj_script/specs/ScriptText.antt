@@ -2,12 +2,12 @@
 use Rattle.std.specs.Prelude.{◌≡◌, ℕ, ◌+◌, ◌<◌, ◌^◌, ◌==◌, List, [], ◌∷◌, Option, None, Some, Bool, true, codes, decimal}
 use Rattle.std.specs.List.{slice_split}
 use Rattle.kj_base.specs.declared.numbers.StepId.{StepId}
-use Rattle.kj_base.specs.declared.commands.Command.{Command}
-use Rattle.kj_base.specs.declared.commands.Command.TheVariants.{Later, Then, Detach}
-use Rattle.kj_base.specs.declared.script.Line.{Line}
-use Rattle.kj_base.specs.declared.script.Line.TheVariants.{Do, Turn}
-use Rattle.kj_base.specs.declared.script.NumberedLine.{NumberedLine}
-use Rattle.kj_base.specs.declared.script.Script.{Script}
+use Rattle.loop_core.specs.declared.asking.Command.{Command}
+use Rattle.loop_core.specs.declared.asking.Command.TheVariants.{Later, Then, Detach}
+use Rattle.loop_core.specs.declared.asking.Line.{Line}
+use Rattle.loop_core.specs.declared.asking.Line.TheVariants.{Do, Turn}
+use Rattle.loop_core.specs.declared.asking.NumberedLine.{NumberedLine}
+use Rattle.loop_core.specs.declared.asking.Script.{Script}
 
 -- a step's number, or `-` for none
 abbrev pub step_word : Option StepId → List ℕ

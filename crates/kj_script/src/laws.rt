@@ -1,7 +1,7 @@
 //! Laws of the text of scripts.
 ghost use Rattle.std.specs.Prelude.{◌≡◌, ◌⊎◌, List, ℕ, Option};
-ghost use Rattle.kj_base.specs.declared.script.Line.{Line};
-ghost use Rattle.kj_base.specs.declared.script.Script.{Script};
+ghost use Rattle.loop_core.specs.declared.asking.Line.{Line};
+ghost use Rattle.loop_core.specs.declared.asking.Script.{Script};
 ghost use Rattle.kj_script.specs.ScriptText.{IsScriptText, Means};
 
 /// A text is the text of one script alone, and each of its lines means one thing.

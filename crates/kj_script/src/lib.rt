@@ -10,7 +10,8 @@ mod reader;
 mod run;
 mod steps;
 
-pub use kj_base::{Bytes, Line, Lines, NumberedLine, Script};
+pub use kj_base::Bytes;
+pub use loop_core::{Line, Lines, NumberedLine, Script};
 pub use laws::{one_script, some_script};
 pub use reader::{ReadRefused, read};
 pub use run::run_script;

@@ -1,10 +1,11 @@
 //! A line from its words.
 ghost use Rattle.std.specs.Prelude.{◌≡◌, List, [], ◌∷◌, IfSome, IfNone, map};
-ghost use Rattle.kj_base.specs.declared.script.Line.{Line};
+ghost use Rattle.loop_core.specs.declared.asking.Line.{Line};
 ghost use Rattle.kj_script.specs.ScriptText.{line_words, LineFits};
 
 use crate::fields::{read_name, read_step};
-use kj_base::{Command, Line, is_word};
+use kj_base::is_word;
+use loop_core::{Command, Line};
 
 /// The line that these words are.
 pub fn line_of(words: &[&[u8]]) -> Option<Line>

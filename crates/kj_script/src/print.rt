@@ -1,10 +1,11 @@
 //! The text of a log.
 ghost use Rattle.std.specs.Prelude.{◌≡◌, ◌++◌, ◌∷◌, [], OnOk, codes, decimal};
 ghost use Rattle.kj_model.specs.Text.{spaced, all_spaced, kind_text, outcome_text, refused_text};
-ghost use Rattle.kj_model.specs.Cases.{refused_of};
+ghost use Rattle.loop_core.specs.Cases.{refused_of};
 
 use itoa::Buffer;
-use kj_base::{Bytes, Kind, NoMemory, NodeId, Outcome, Refused, StepId};
+use kj_base::{Bytes, Kind, NoMemory, NodeId, Outcome, StepId};
+use loop_core::Refused;
 
 // A number after a space. Here as below an `Err` may leave a part of the text.
 fn print_number(text: &mut Bytes, n: u64) -> Result<(), NoMemory>

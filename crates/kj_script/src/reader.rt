@@ -1,12 +1,13 @@
 //! Reading of scripts.
 ghost use Rattle.std.specs.Prelude.{◌≡◌, ◌<◌, ◌+◌, ◌^◌, [], ◌∷◌, ◌++◌, Option, IfOk, IsSome, OnOk, length};
-ghost use Rattle.kj_base.specs.declared.script.Line.{Line};
-ghost use Rattle.kj_base.specs.declared.script.Script.{Script};
+ghost use Rattle.loop_core.specs.declared.asking.Line.{Line};
+ghost use Rattle.loop_core.specs.declared.asking.Script.{Script};
 ghost use Rattle.kj_script.specs.ScriptText.{IsScriptText, Means, numbered_from};
 
 use crate::lines::line_of;
 use crate::parts::{lines_of, words_of};
-use kj_base::{Line, Lines, NoMemory, NumberedLine, Script};
+use kj_base::NoMemory;
+use loop_core::{Line, Lines, NumberedLine, Script};
 use std::alloc::{AllocError, Global};
 use thiserror::Error;
 

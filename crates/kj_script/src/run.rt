@@ -1,7 +1,7 @@
 //! A script, run on a loop of its own.
 ghost use Rattle.std.specs.Prelude.{◌≡◌, [], Some, false, IfOk, OnOk};
-ghost use Rattle.kj_base.specs.Commands.{command_of};
-ghost use Rattle.kj_model.specs.Cases.{script_of, numbered_of};
+ghost use Rattle.loop_core.specs.Cases.{command_of};
+ghost use Rattle.loop_core.specs.Cases.{script_of, numbered_of};
 ghost use Rattle.kj_model.specs.Log.{log_of, Do, Turn};
 ghost use Rattle.kj_model.specs.Places.{table_fits};
 ghost use Rattle.kj_model.specs.Text.{log_text};
@@ -10,7 +10,8 @@ ghost use Rattle.kj_script.specs.Told.{told_by};
 
 use crate::print::{print_idle, print_refused};
 use crate::steps::ScriptSteps;
-use kj_base::{Bytes, Command, Limits, Line, NAMES, NoMemory, NumberedLine, SLOTS, Script};
+use kj_base::{Bytes, Limits, NAMES, NoMemory, SLOTS};
+use loop_core::{Command, Line, NumberedLine, Script};
 use loop_core::{Loop, Turned};
 use std::alloc::Global;
 

@@ -5,7 +5,8 @@ ghost use Rattle.kj_model.specs.Text.{item_text};
 ghost use Rattle.kj_script.specs.Items.{item_of};
 
 use crate::print::{print_free, print_run};
-use kj_base::{Action, Bytes, Commands, Ending, NoMemory, NodeId, Outcome, StepId, Steps};
+use kj_base::{Bytes, Ending, NoMemory, NodeId, Outcome, StepId};
+use loop_core::{Action, Commands, Steps};
 use std::alloc::Global;
 
 /// A run with its input, or a free.

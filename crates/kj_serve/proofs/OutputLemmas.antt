@@ -5,8 +5,8 @@ use Rattle.std.proofs.lemmas.List.Elements.{All-cons, All-nil}
 use Rattle.std.proofs.lemmas.Bool.{cases_lt}
 use Rattle.std.specs.Io.KnownBytes.{Consumes, Appends, IsAtEnd}
 use Rattle.kj_base.specs.declared.limits.TheConstants.{INPUT_LIMIT}
-use Rattle.kj_base.specs.declared.script.Script.{Script}
-use Rattle.kj_model.specs.Cases.{script_of}
+use Rattle.loop_core.specs.declared.asking.Script.{Script}
+use Rattle.loop_core.specs.Cases.{script_of}
 use Rattle.kj_model.specs.Log.{log_of}
 use Rattle.kj_model.specs.Places.{table_fits}
 use Rattle.kj_model.specs.Text.{log_text}

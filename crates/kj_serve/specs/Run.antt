@@ -2,8 +2,8 @@
 use Rattle.std.specs.Prelude.{◌≡◌, ◌⊎◌, ℕ, ◌<◌, ◌≤◌, ◌++◌, List, [], ◌∷◌, length, Some, codes}
 use Rattle.std.specs.Io.KnownBytes.{Consumes}
 use Rattle.kj_io.specs.Causes.{Rose}
-use Rattle.kj_base.specs.declared.script.Script.{Script}
-use Rattle.kj_model.specs.Cases.{script_of}
+use Rattle.loop_core.specs.declared.asking.Script.{Script}
+use Rattle.loop_core.specs.Cases.{script_of}
 use Rattle.kj_model.specs.Log.{log_of}
 use Rattle.kj_model.specs.Places.{table_fits}
 use Rattle.kj_model.specs.Text.{log_text}

@@ -2,13 +2,14 @@
 use Rattle.std.proofs.Common.{◌≡◌, ℕ, ◌+◌, ◌<◌, List, [], ◌∷◌, Option, None, Some, Bool, true, false, Result, Ok, Err, refl, sym, ap, ◌∙◌, subst, map, drop, length, get_or, add-one, drop-cons}
 use Rattle.std.specs.Prelude.{is_err}
 use Rattle.kj_base.specs.Record.{Item}
-use Rattle.kj_base.specs.Commands.{Command, command_of}
-use Rattle.kj_base.specs.declared.commands.Command.{Command as CommandCase}
-use Rattle.kj_base.specs.declared.refused.Refused.{Refused as RefusedCase}
+use Rattle.kj_base.specs.Commands.{Command}
+use Rattle.loop_core.specs.Cases.{command_of}
+use Rattle.loop_core.specs.declared.asking.Command.{Command as CommandCase}
+use Rattle.loop_core.specs.declared.asking.Refused.{Refused as RefusedCase}
 use Rattle.kj_model.specs.World.{World, State}
 use Rattle.kj_model.specs.Apply.{Refused, apply}
 use Rattle.kj_model.specs.Value.{all_applied, rest_applied}
-use Rattle.kj_model.specs.Cases.{refused_of}
+use Rattle.loop_core.specs.Cases.{refused_of}
 use Rattle.loop_core.specs.Seen.{Seen, Answer, tabled}
 use Rattle.loop_core.specs.Applied.{IsApplied, AreApplied, Applying, refusal_in}
 

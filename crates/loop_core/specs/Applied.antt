@@ -2,10 +2,10 @@
 use Rattle.std.specs.Prelude.{◌≡◌, List, Option, None, Some, Bool, Result, Ok, Err}
 use Rattle.kj_base.specs.Record.{Item}
 use Rattle.kj_base.specs.Commands.{Command}
-use Rattle.kj_base.specs.declared.refused.Refused.{Refused as RefusedCase}
+use Rattle.loop_core.specs.declared.asking.Refused.{Refused as RefusedCase}
 use Rattle.kj_model.specs.World.{World, State}
 use Rattle.kj_model.specs.Apply.{Refused, apply}
-use Rattle.kj_model.specs.Cases.{refused_of}
+use Rattle.loop_core.specs.Cases.{refused_of}
 use Rattle.kj_model.specs.Value.{all_applied}
 use Rattle.loop_core.specs.Seen.{Seen, Answer, tabled}
 

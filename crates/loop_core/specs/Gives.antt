@@ -6,8 +6,8 @@ use Rattle.kj_base.specs.Record.{Item, Tells}
 use Rattle.kj_base.specs.Commands.{Action}
 use Rattle.kj_base.specs.declared.outcomes.Outcome.{Outcome}
 use Rattle.kj_base.specs.declared.outcomes.Outcome.TheVariants.{Value, Broken}
-use Rattle.kj_base.specs.declared.actions.Ending.{Ending}
-use Rattle.kj_base.specs.declared.actions.Ending.TheVariants.{Value as Give, Throw, Promise, Input}
+use Rattle.kj_base.specs.declared.endings.Ending.{Ending}
+use Rattle.kj_base.specs.declared.endings.Ending.TheVariants.{Value as Give, Throw, Promise, Input}
 use Rattle.kj_base.specs.declared.memory.NoMemory.{NoMemory}
 use Rattle.kj_model.specs.Outcomes.{promise_given, void}
 use Rattle.kj_model.specs.World.{World, State, Setting}

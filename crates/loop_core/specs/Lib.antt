@@ -13,3 +13,4 @@ pub mod Turns
 pub mod Loops
 pub mod Quiet
 pub mod Closing
+pub mod Cases

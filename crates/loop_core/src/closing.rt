@@ -12,7 +12,8 @@ use crate::engine::{Engine, drop_node};
 use crate::names::Named;
 use crate::nodes::{Node, has_event};
 use crate::walk::{go_down, put_last};
-use kj_base::{NodeId, Steps};
+use crate::asking::Steps;
+use kj_base::NodeId;
 
 // A tree goes, dependencies first, and its nodes are listed.
 fn close_tree<S: Steps>(engine: &mut Engine, root: u64, steps: &mut S, freed: &mut Vec<NodeId>)

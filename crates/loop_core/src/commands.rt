@@ -1,6 +1,7 @@
 //! What each command does, and why it is refused.
 ghost use Rattle.std.specs.Prelude.{◌≡◌, ◌<◌, ◌≤◌, ◌+◌, ◌^◌, ◌++◌, [], ◌∷◌, length, None, Some, true, false, map};
-ghost use Rattle.kj_base.specs.Commands.{Later, Then, Detach, command_of, step_of};
+ghost use Rattle.kj_base.specs.Commands.{Later, Then, Detach, step_of};
+ghost use Rattle.loop_core.specs.Cases.{command_of};
 ghost use Rattle.loop_core.specs.Order.{events_of};
 ghost use Rattle.loop_core.specs.Nodes.{queue_listened};
 ghost use Rattle.loop_core.specs.Engine.{world_of, SameRest};
@@ -12,7 +13,8 @@ use crate::engine::Engine;
 use crate::names::{insert_name, is_name, remove_name, root_of};
 use crate::nodes::{Form, add_node, is_ready, listener_of};
 use crate::order::arm_next;
-use kj_base::{Command, Name, Refused, StepId};
+use crate::asking::{Command, Refused};
+use kj_base::{Name, StepId};
 
 // Numbers of nodes end at 2^63.
 const LAST_NUMBER: u64 = 0x8000_0000_0000_0000;

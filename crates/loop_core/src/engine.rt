@@ -13,7 +13,8 @@ use crate::names::Named;
 use crate::nodes::{Node, remove_node};
 use crate::order::{Order, disarm};
 use crate::walk::{Frame, go_down};
-use kj_base::{Limits, NodeId, Steps};
+use crate::asking::Steps;
+use kj_base::{Limits, NodeId};
 
 // All that a loop holds, with room for all that it can ever need.
 #[derive(Drop)]

@@ -1,6 +1,6 @@
 //! Running steps, and evaluating a tree.
 ghost use Rattle.std.specs.Prelude.{◌≡◌, ◌<◌, ◌≤◌, Some, None, true, false, is_err};
-ghost use Rattle.kj_base.specs.Commands.{action_of};
+ghost use Rattle.loop_core.specs.Cases.{action_of};
 ghost use Rattle.kj_base.specs.Counts.{HasLacked};
 ghost use Rattle.kj_model.specs.Outcomes.{failed};
 ghost use Rattle.kj_model.specs.Value.{chosen, value};
@@ -14,7 +14,8 @@ use crate::commands::apply_all;
 use crate::engine::{Engine, free_tree};
 use crate::nodes::{Form, put_form};
 use crate::walk::{Frame, open_frames};
-use kj_base::{Action, Ending, Exception, Kind, NoMemory, NodeId, Outcome, StepId, Steps, Words};
+use crate::asking::{Action, Steps};
+use kj_base::{Ending, Exception, Kind, NoMemory, NodeId, Outcome, StepId, Words};
 
 // The code of the exception where a step that gives values gave a promise.
 const PROMISE_GIVEN: u32 = 8;

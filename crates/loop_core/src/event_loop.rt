@@ -1,6 +1,6 @@
 //! The loop as a host sees it.
 ghost use Rattle.std.specs.Prelude.{◌≡◌, ◌≤◌, ◌%◌, ◌++◌, List, IfOk, false};
-ghost use Rattle.kj_base.specs.Commands.{command_of};
+ghost use Rattle.loop_core.specs.Cases.{command_of};
 ghost use Rattle.kj_base.specs.Counts.{HasLacked};
 ghost use Rattle.kj_base.specs.Record.{Item, Tells};
 ghost use Rattle.kj_model.specs.World.{new_world, State};
@@ -17,7 +17,8 @@ use crate::engine::Engine;
 use crate::fire::turn;
 use crate::order::Order;
 use crate::turned::Turned;
-use kj_base::{Command, Limits, NoMemory, NodeId, Refused, Steps};
+use crate::asking::{Command, Refused, Steps};
+use kj_base::{Limits, NoMemory, NodeId};
 use std::alloc::Global;
 use std::marker::Model;
 

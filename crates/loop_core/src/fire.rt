@@ -15,7 +15,7 @@ use crate::evaluate::evaluate;
 use crate::nodes::{Form, form_of};
 use crate::order::{rewind, take_next};
 use crate::turned::Turned;
-use kj_base::Steps;
+use crate::asking::Steps;
 
 // The tree of a Task that is there.
 fn task_tree(engine: &Engine, n: u64) -> Option<u64>

@@ -1,6 +1,7 @@
 //! The event loop over plain vectors: commands, turns and the closing, each as the definitions of kj_model say.
 #![tactic(auto)]
 
+mod asking;
 mod closing;
 mod commands;
 mod engine;
@@ -15,5 +16,6 @@ mod tests;
 mod turned;
 mod walk;
 
+pub use asking::{Action, Command, Commands, Line, Lines, NumberedLine, Refused, Script, Steps};
 pub use event_loop::Loop;
 pub use turned::Turned;

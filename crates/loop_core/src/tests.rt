@@ -2,10 +2,8 @@
 ghost use Rattle.std.specs.Prelude.{None};
 
 use super::*;
-use kj_base::{
-    Action, Command, Commands, Ending, Limits, Name, NoMemory, NodeId, Outcome, Refused, StepId,
-    Steps, Words,
-};
+use crate::asking::{Action, Command, Commands, Refused, Steps};
+use kj_base::{Ending, Limits, Name, NoMemory, NodeId, Outcome, StepId, Words};
 use std::test::Fail;
 
 // Tells a free as the node, and a run as the node and then the step.

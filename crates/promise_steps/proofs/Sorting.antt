@@ -10,7 +10,7 @@ use Rattle.std.proofs.lemmas.Bool.{cases_Bool, cases_lt, false≢true}
 use Rattle.std.proofs.lemmas.Bool.Decides.{nat_tests}
 use Rattle.std.proofs.lemmas.List.Sorted.{All-permutation}
 use Rattle.kj_base.specs.Commands.{Action}
-use Rattle.kj_base.specs.declared.actions.Ending.TheVariants.{Input}
+use Rattle.kj_base.specs.declared.endings.Ending.TheVariants.{Input}
 use Rattle.kj_model.specs.Log.{Body, passing, at_or_last, runs_of, bodies_of}
 use Rattle.promise_commands.specs.Commands.{action_of}
 use Rattle.promise_commands.specs.Scripts.{body_of}

@@ -1,6 +1,6 @@
 -- The lines so far are those of the texts so far.
 use Rattle.std.proofs.Common.{◌≡◌, List, Option, map, take}
-use Rattle.kj_base.specs.declared.script.Line.{Line}
+use Rattle.loop_core.specs.declared.asking.Line.{Line}
 use Rattle.kj_script.specs.ScriptText.{MeanAll, numbered_from}
 use Rattle.kj_script.proofs.reader.read.Given as goal
 

@@ -1,7 +1,7 @@
 -- What a command did is what the definitions do.
 use Rattle.std.proofs.Common.{[], ◌∷◌, None, Some, false, sym, ◌∙◌, append-nil}
-use Rattle.kj_base.specs.Commands.{command_of}
-use Rattle.kj_model.specs.Cases.{refused_of}
+use Rattle.loop_core.specs.Cases.{command_of}
+use Rattle.loop_core.specs.Cases.{refused_of}
 use Rattle.kj_model.specs.Log.{scripted, RefusedAt}
 use Rattle.kj_model.specs.Text.{line_text}
 use Rattle.kj_script.proofs.Logs.{command_done, on_ok, line_at_end}

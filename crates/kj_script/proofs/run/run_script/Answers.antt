@@ -2,7 +2,7 @@
 use Rattle.std.proofs.Common.{List, ℕ, None, map, sym, ap, subst}
 use Rattle.kj_model.specs.World.{World, new_world}
 use Rattle.kj_model.specs.Log.{Numbered, limits_or}
-use Rattle.kj_model.specs.Cases.{numbered_of}
+use Rattle.loop_core.specs.Cases.{numbered_of}
 use Rattle.kj_script.specs.Running.{IsOnTheWay}
 use Rattle.kj_script.proofs.Logs.{way_begins, way_goes_on, drop_at}
 use Rattle.kj_script.proofs.run.run_script.Goals as goal

@@ -1,6 +1,6 @@
 -- The lines so far lead to this world and this text.
 use Rattle.std.proofs.Common.{◌≡◌, [], Some, false, map, drop}
-use Rattle.kj_model.specs.Cases.{numbered_of}
+use Rattle.loop_core.specs.Cases.{numbered_of}
 use Rattle.kj_script.specs.Told.{told_by}
 use Rattle.kj_script.specs.Running.{IsOnTheWay}
 use Rattle.kj_script.proofs.run.run_script.Given as goal

@@ -1,5 +1,6 @@
 use Rattle.std.proofs.Common.{arith, refl, sym, ap, ◌∙◌, List, map, subst, drop_of_length-le}
-use Rattle.kj_base.specs.Commands.{Command, command_of}
+use Rattle.kj_base.specs.Commands.{Command}
+use Rattle.loop_core.specs.Cases.{command_of}
 use Rattle.loop_core.specs.declared.engine.Engine.{Engine}
 use Rattle.loop_core.specs.Engine.{world_of}
 use Rattle.loop_core.specs.Applied.{Applying}

@@ -1,5 +1,5 @@
 use Rattle.std.proofs.Common.{◌≡◌, drop, map, false}
-use Rattle.kj_base.specs.Commands.{command_of}
+use Rattle.loop_core.specs.Cases.{command_of}
 use Rattle.loop_core.specs.Engine.{world_of, SameRest}
 use Rattle.loop_core.specs.Kept.{IsKept, KeepsRoots}
 use Rattle.loop_core.specs.Applied.{Applying}

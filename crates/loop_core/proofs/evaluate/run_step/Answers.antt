@@ -1,4 +1,4 @@
-use Rattle.kj_base.specs.Commands.{action_of}
+use Rattle.loop_core.specs.Cases.{action_of}
 use Rattle.loop_core.specs.Engine.{world_of}
 use Rattle.loop_core.proofs.Runs.{ran, not_ran}
 use Rattle.loop_core.proofs.evaluate.run_step.Goals as goal
