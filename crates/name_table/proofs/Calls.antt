@@ -7,14 +7,14 @@ use Rattle.kj_model.specs.World.{World}
 use Rattle.kj_model.specs.Changes.{named, unnamed}
 use Rattle.kj_model.specs.Nodes.{dropped}
 use Rattle.kj_model.specs.Fire.{without_left_over}
-use Rattle.promise_names.specs.Held.{held_shown, IsNoAsk, HasRoot, root_of, roots_replaced}
+use Rattle.promise_names.specs.Held.{held_shown, IsLoopsOwn, HasRoot, root_of, roots_replaced}
 use Rattle.promise_names.specs.declared.names.Held.{Held}
 use Rattle.name_table.specs.declared.entries.Entry.{Entry}
 use Rattle.name_table.specs.Entries.{without_entry, entered, entry_replaced}
 use Rattle.name_table.specs.Table.{Table, Stands, root_at, is_other}
 use Rattle.name_table.proofs.Rising.{rising_entered, rising_without, all_entered, all_without, entered_self, entered_other, held_gone, gone_other}
 use Rattle.name_table.proofs.Names.{named_is, unnamed_is}
-use Rattle.name_table.proofs.Replaced.{replaced_is, rising_replaced, no_asks_replaced}
+use Rattle.name_table.proofs.Replaced.{replaced_is, rising_replaced, owns_replaced}
 use Rattle.name_table.proofs.Trees.{trees_dropped}
 
 -- the table with other entries
@@ -25,14 +25,14 @@ with_entries es t = record { entries = es; limit = t.limit; awaited = t.awaited;
 abbrev pub with_over : List Link → Table → Table
 with_over links t = record { entries = t.entries; limit = t.limit; awaited = t.awaited; over = links; stopped = t.stopped }
 
-pub set_stands : (name : Name) (held : Held) (es : List Entry) (t : Table) (w : World) → IsNoAsk held → es ≡ entered (record { name = name; held = held }) t.entries → Stands t w
+pub set_stands : (name : Name) (held : Held) (es : List Entry) (t : Table) (w : World) → IsLoopsOwn held → es ≡ entered (record { name = name; held = held }) t.entries → Stands t w
     → Stands (with_entries es t) (named name.0 (held_shown [] held) w)
 set_stands name held es t w ask is st =
     let x : Entry = record { name = name; held = held } in
     subst (λ (l : List Entry). Stands (with_entries l t) (named name.0 (held_shown [] held) w)) (sym is) (record {
       names = named_is name held w.names t.entries st.names;
       rising = rising_entered x t.entries st.rising;
-      no_asks = all_entered (λ (e : Entry). IsNoAsk e.held) x t.entries ask st.no_asks;
+      no_asks = all_entered (λ (e : Entry). IsLoopsOwn e.held) x t.entries ask st.no_asks;
       awaited = st.awaited;
       over = st.over;
       asks = st.asks;
@@ -54,7 +54,7 @@ remove_stands n es t w is st =
     subst (λ (l : List Entry). Stands (with_entries l t) (unnamed n w)) (sym is) (record {
       names = unnamed_is n w.names t.entries st.names;
       rising = rising_without n t.entries st.rising;
-      no_asks = all_without (λ (e : Entry). IsNoAsk e.held) n t.entries st.no_asks;
+      no_asks = all_without (λ (e : Entry). IsLoopsOwn e.held) n t.entries st.no_asks;
       awaited = st.awaited;
       over = st.over;
       asks = st.asks;
@@ -75,7 +75,7 @@ rename_stands old new es t w is st =
     subst (λ (l : List Entry). Stands (with_entries l t) (roots_replaced old new.number.0 w)) (sym is) (record {
       names = replaced_is old new w.names t.entries st.names;
       rising = rising_replaced old new t.entries st.rising;
-      no_asks = no_asks_replaced old new t.entries st.no_asks;
+      no_asks = owns_replaced old new t.entries st.no_asks;
       awaited = st.awaited;
       over = st.over;
       asks = st.asks;

@@ -3,18 +3,18 @@ use Rattle.std.proofs.Common.{◌≡◌, ℕ, List, [], ◌∷◌, Option, None,
 use Rattle.kj_base.specs.declared.numbers.Name.{Name}
 use Rattle.kj_model.specs.World.{World, Named, Held, held_at}
 use Rattle.kj_model.specs.Free.{ask_of, abandoned_as, without_wrap_in}
-use Rattle.promise_names.specs.Held.{IsNoAsk, left_world}
+use Rattle.promise_names.specs.Held.{IsLoopsOwn, left_world}
 use Rattle.promise_names.specs.declared.names.Leaving.{Leaving}
 use Rattle.promise_names.specs.declared.names.Leaving.TheVariants.{Nothing, Cell, Wrap}
 use Rattle.promise_names.specs.declared.names.Held.{Held as HeldCase}
 use Rattle.promise_names.specs.declared.names.Held.TheVariants.{Promise as PromiseCase, CellOf as CellCase, AskCell as AskCase, HubOf as HubCase, Group as GroupCase, Canceler as CancelerCase, RequestOf as RequestCase}
 use Rattle.name_table.specs.declared.entries.Entry.{Entry}
 use Rattle.name_table.specs.Entries.{held_in, names_of}
-use Rattle.name_table.specs.Table.{Table, Stands, HasNoAsks}
+use Rattle.name_table.specs.Table.{Table, Stands, AreLoopsOwn}
 use Rattle.name_table.proofs.Names.{seen, shown_held, named_is}
 use Rattle.name_table.proofs.Ranks.{put_again}
 
-no_ask_step : (n : ℕ) (e : Entry) (held : HeldCase) (es : List Entry) → e.held ≡ held → IsNoAsk held → ask_of n (names_of es) ≡ None → ask_of n (names_of (e ∷ es)) ≡ None
+no_ask_step : (n : ℕ) (e : Entry) (held : HeldCase) (es : List Entry) → e.held ≡ held → IsLoopsOwn held → ask_of n (names_of es) ≡ None → ask_of n (names_of (e ∷ es)) ≡ None
 no_ask_step n e (PromiseCase root) es is h none = rw is none
 no_ask_step n e (CellCase cell) es is h none = rw is none
 no_ask_step n e (AskCase cell taken) es is h none = absurd h
@@ -23,7 +23,7 @@ no_ask_step n e (GroupCase error empty) es is h none = rw is none
 no_ask_step n e CancelerCase es is h none = rw is none
 no_ask_step n e (RequestCase request) es is h none = rw is none
 
-no_ask : (n : ℕ) (es : List Entry) → HasNoAsks es → ask_of n (names_of es) ≡ None
+no_ask : (n : ℕ) (es : List Entry) → AreLoopsOwn es → ask_of n (names_of es) ≡ None
 no_ask n [] all = refl
 no_ask n (e ∷ es) all = no_ask_step n e e.held es refl all.0 (no_ask n es all.1)
 

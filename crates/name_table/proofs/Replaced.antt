@@ -8,12 +8,12 @@ use Rattle.kj_base.specs.declared.nodes.Link.{Link}
 use Rattle.kj_model.specs.World.{Named, Held, Promise}
 use Rattle.kj_model.specs.Nodes.{renamed_if}
 use Rattle.kj_model.specs.Fire.{held_renamed, named_renamed}
-use Rattle.promise_names.specs.Held.{held_shown, IsNoAsk, root_of, root_renamed}
+use Rattle.promise_names.specs.Held.{held_shown, IsLoopsOwn, root_of, root_renamed}
 use Rattle.promise_names.specs.declared.names.Held.{Held as HeldCase}
 use Rattle.promise_names.specs.declared.names.Held.TheVariants.{Promise as PromiseCase, CellOf as CellCase, AskCell as AskCase, HubOf as HubCase, Group as GroupCase, Canceler as CancelerCase, RequestOf as RequestCase}
 use Rattle.name_table.specs.declared.entries.Entry.{Entry}
 use Rattle.name_table.specs.Entries.{IsRising, held_in, link_if, held_replaced, entry_replaced, names_of}
-use Rattle.name_table.specs.Table.{HasNoAsks}
+use Rattle.name_table.specs.Table.{AreLoopsOwn}
 
 link_is : (b : Bool) (new root : Link) → (link_if b new root).number.0 ≡ renamed_if b new.number.0 root.number.0
 link_is true new root = refl
@@ -48,18 +48,18 @@ pub rising_replaced : (old : ℕ) (new : Link) (es : List Entry) → IsRising es
 rising_replaced old new [] r = tt
 rising_replaced old new (e ∷ es) r = (above_replaced old new e.name.0 es r.0, rising_replaced old new es r.1)
 
-no_ask : (old : ℕ) (new : Link) (held : HeldCase) → IsNoAsk held → IsNoAsk (held_replaced old new held)
-no_ask old new (PromiseCase root) h = tt
-no_ask old new (CellCase cell) h = tt
-no_ask old new (AskCase cell taken) h = h
-no_ask old new (HubCase hub) h = tt
-no_ask old new (GroupCase error empty) h = tt
-no_ask old new CancelerCase h = tt
-no_ask old new (RequestCase request) h = tt
+own_still : (old : ℕ) (new : Link) (held : HeldCase) → IsLoopsOwn held → IsLoopsOwn (held_replaced old new held)
+own_still old new (PromiseCase root) h = tt
+own_still old new (CellCase cell) h = tt
+own_still old new (AskCase cell taken) h = h
+own_still old new (HubCase hub) h = tt
+own_still old new (GroupCase error empty) h = tt
+own_still old new CancelerCase h = tt
+own_still old new (RequestCase request) h = h
 
-pub no_asks_replaced : (old : ℕ) (new : Link) (es : List Entry) → HasNoAsks es → HasNoAsks (map (entry_replaced old new) es)
-no_asks_replaced old new [] all = tt
-no_asks_replaced old new (e ∷ es) all = (no_ask old new e.held all.0, no_asks_replaced old new es all.1)
+pub owns_replaced : (old : ℕ) (new : Link) (es : List Entry) → AreLoopsOwn es → AreLoopsOwn (map (entry_replaced old new) es)
+owns_replaced old new [] all = tt
+owns_replaced old new (e ∷ es) all = (own_still old new e.held all.0, owns_replaced old new es all.1)
 
 root_is : (old : ℕ) (new : Link) (held : HeldCase) → root_of (Some (held_replaced old new held)) ≡ root_renamed old new.number.0 (root_of (Some held))
 root_is old new (PromiseCase root) = ap (λ (n : ℕ). Some n) (link_is (nat_eq root.number.0 old) new root)

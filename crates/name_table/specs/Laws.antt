@@ -3,16 +3,16 @@ use Rattle.std.proofs.Common.{◌≡◌, ℕ, ◌<◌, Bool, true, false, List, 
 use Rattle.std.specs.Prelude.{nat_eq}
 use Rattle.std.specs.List.{AllByRecursion}
 use Rattle.std.proofs.lemmas.Bool.Decides.{nat_tests}
-use Rattle.kj_model.specs.World.{World, Held as Seen, Promise as PromiseSeen, held_at}
+use Rattle.kj_model.specs.World.{World, Held as Seen, Promise as PromiseSeen, RequestOf as RequestSeen, held_at}
 use Rattle.kj_model.specs.Fire.{group_of}
 use Rattle.promise_nodes.specs.Kept.{SameNames}
 use Rattle.promise_names.specs.Once.{AreOnce}
 use Rattle.promise_names.specs.declared.names.Held.{Held}
 use Rattle.promise_names.specs.declared.names.Held.TheVariants.{Promise, CellOf, AskCell, HubOf, Group, Canceler, RequestOf}
 use Rattle.name_table.specs.declared.entries.Entry.{Entry}
-use Rattle.promise_names.specs.Held.{held_shown, root_of}
+use Rattle.promise_names.specs.Held.{held_shown, root_of, IsLoopsOwn}
 use Rattle.name_table.specs.Entries.{IsRising, held_in, names_of}
-use Rattle.name_table.specs.Table.{Table, Stands, trees, root_at}
+use Rattle.name_table.specs.Table.{Table, Stands, AreLoopsOwn, trees, root_at}
 
 -- nodes don't matter
 pub table_nodes_free : (t : Table) (w v : World) → SameNames w v → Stands t w → Stands t v
@@ -79,3 +79,25 @@ root_held name root (e ∷ es) is = root_step name root e es (nat_eq e.name.0 na
 -- each promise has its root
 pub table_roots_are : (t : Table) (w : World) (name root : ℕ) → Stands t w → held_at name w.names ≡ Some (PromiseSeen root) → root_at t name ≡ Some root
 table_roots_are t w name root st is = root_held name root t.entries (sym (ap (held_at name) st.names) ∙ is)
+
+request_case : (node : Option ℕ) (h : Held) → IsLoopsOwn h → ◌≡◌ {A = Option Seen} (Some (held_shown [] h)) (Some (RequestSeen node)) → ⊥
+request_case node (Promise link) own is = absurd cc
+request_case node (CellOf cell) own is = absurd cc
+request_case node (AskCell cell taken) own is = own
+request_case node (HubOf hub) own is = absurd cc
+request_case node (Group error empty) own is = absurd cc
+request_case node Canceler own is = absurd cc
+request_case node (RequestOf request) own is = own
+
+request_step : (name : ℕ) (node : Option ℕ) (e : Entry) (es : List Entry) (b : Bool) → nat_eq e.name.0 name ≡ b → IsLoopsOwn e.held → (held_at name (names_of es) ≡ Some (RequestSeen node) → ⊥)
+    → held_at name (names_of (e ∷ es)) ≡ Some (RequestSeen node) → ⊥
+request_step name node e es true t own ih is = request_case node e.held own (rw t at is)
+request_step name node e es false t own ih is = ih (rw t at is)
+
+no_request : (name : ℕ) (node : Option ℕ) (es : List Entry) → AreLoopsOwn es → held_at name (names_of es) ≡ Some (RequestSeen node) → ⊥
+no_request name node [] own is = absurd cc
+no_request name node (e ∷ es) own is = request_step name node e es (nat_eq e.name.0 name) refl own.0 (no_request name node es own.1) is
+
+-- no name is a request's
+pub table_no_requests : (t : Table) (w : World) (name : ℕ) (node : Option ℕ) → Stands t w → held_at name w.names ≡ Some (RequestSeen node) → ⊥
+table_no_requests t w name node st is = no_request name node t.entries st.no_asks (sym (ap (held_at name) st.names) ∙ is)

@@ -4,7 +4,7 @@ use Rattle.std.specs.List.{AllByRecursion}
 use Rattle.kj_base.specs.declared.nodes.Link.{Link}
 use Rattle.kj_base.specs.declared.numbers.Name.{Name}
 use Rattle.kj_model.specs.World.{World}
-use Rattle.promise_names.specs.Held.{IsNoAsk, root_of, name_number, awaited_name}
+use Rattle.promise_names.specs.Held.{IsLoopsOwn, root_of, name_number, awaited_name}
 use Rattle.name_table.specs.declared.entries.Entry.{Entry}
 use Rattle.name_table.specs.declared.table.NameTable.TheInside.{Inside}
 use Rattle.name_table.specs.Entries.{IsRising, held_in, names_of}
@@ -37,15 +37,15 @@ trees links = map (λ (tree : Link). tree.number.0) links
 abbrev pub is_other : ℕ → Link → Bool
 is_other n tree = not (tree.number.0 == n)
 
--- no name holds the cell of an ask
-abbrev pub HasNoAsks : List Entry → Type 0
-HasNoAsks es = AllByRecursion (λ (e : Entry). IsNoAsk e.held) es
+-- no name holds the cell of an ask, or a request
+abbrev pub AreLoopsOwn : List Entry → Type 0
+AreLoopsOwn es = AllByRecursion (λ (e : Entry). IsLoopsOwn e.held) es
 
 -- the entries are the names of this world, which has their limit, and no asks, ended requests or abandoned cells
 pub record Stands (t : Table) (w : World) : Type 0 where
   pub names : w.names ≡ names_of t.entries
   pub rising : IsRising t.entries
-  pub no_asks : HasNoAsks t.entries
+  pub no_asks : AreLoopsOwn t.entries
   pub awaited : awaited_name w.awaited ≡ name_number t.awaited
   pub over : w.left_over ≡ trees t.over
   pub asks : w.asks ≡ []

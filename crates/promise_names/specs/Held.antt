@@ -59,10 +59,11 @@ pub record AreFree (roots : ℕ → Option ℕ) (taken : ℕ → Bool) (next : �
 abbrev pub HasRoot : (ℕ → Option ℕ) → (ℕ → Option ℕ) → ℕ → Option ℕ → Type 0
 HasRoot old new name root = (new name ≡ root) × ((other : ℕ) → (other ≡ name → ⊥) → new other ≡ old other)
 
--- not the cell of an ask
-abbrev pub IsNoAsk : HeldCase → Type 0
-IsNoAsk (AskCase cell is_taken) = ⊥
-IsNoAsk other = Unit {0}
+-- the loop's own: neither the cell of an ask nor a request of another loop
+abbrev pub IsLoopsOwn : HeldCase → Type 0
+IsLoopsOwn (AskCase cell is_taken) = ⊥
+IsLoopsOwn (RequestCase node) = ⊥
+IsLoopsOwn other = Unit {0}
 
 -- the number of a name that may be absent
 abbrev pub name_number : Option Name → Option ℕ

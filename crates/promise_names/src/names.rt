@@ -1,13 +1,13 @@
 //! A keeper of names.
 ghost use Rattle.std.specs.Prelude.{◌≡◌, ◌+◌, ◌<◌, ◌≤◌, ◌++◌, ◌∷◌, [], ℕ, List, Option, None, Some, Bool, true, false, IsSome, length, slice_get};
-ghost use Rattle.kj_model.specs.World.{World, Awaited, Promise, held_at};
+ghost use Rattle.kj_model.specs.World.{World, Awaited, Promise, RequestOf, held_at};
 ghost use Rattle.kj_model.specs.Nodes.{dropped};
 ghost use Rattle.kj_model.specs.Changes.{named, unnamed};
 ghost use Rattle.kj_model.specs.Fire.{group_of, without_left_over};
 ghost use Rattle.promise_nodes.specs.Shown.{link_number};
 ghost use Rattle.promise_nodes.specs.Kept.{SameNames};
 ghost use Rattle.promise_names.specs.Once.{AreOnce};
-ghost use Rattle.promise_names.specs.Held.{held_shown, SeesHeld, IsListless, IsNoAsk, HasRoot, root_of, name_number, awaited_name, first_name, root_renamed, roots_replaced, with_left_over, with_lost, stopped_world, left_world, AreApart};
+ghost use Rattle.promise_names.specs.Held.{held_shown, SeesHeld, IsListless, IsLoopsOwn, HasRoot, root_of, name_number, awaited_name, first_name, root_renamed, roots_replaced, with_left_over, with_lost, stopped_world, left_world, AreApart};
 ghost use Rattle.promise_names.specs.declared.names.Held.{Held};
 
 use kj_base::{Link, Name, StepId};
@@ -83,7 +83,7 @@ pub trait Names {
     /// A name holds this now: a name that is there, or for which there is room. A set has no tasks, and a canceler no Wraps.
     fn set(&mut self, name: Name, held: Held)
         requires room { count self.old < limit self.old }
-        requires kind { IsNoAsk held }
+        requires kind { IsLoopsOwn held }
         ensures stands { (w : World) → stands self.old w → IsListless (held_at name.0 w.names) → stands self.new (named name.0 (held_shown [] held) w) }
         ensures root { HasRoot (roots self.old) (roots self.new) name.0 (root_of (Some held)) }
         ensures few { count self.new ≤ count self.old + 1 }
@@ -184,6 +184,10 @@ pub trait Names {
 
     /// The root of each promise in each world that it stands for.
     ghost roots_are: { (names : Self) (w : World) (name root : ℕ) → stands names w → held_at name w.names ≡ Some (Promise root) → roots names name ≡ Some root };
+
+    /// No name is a request's.
+    ghost no_requests: { (names : Self) (w : World) (name : ℕ) (node : Option ℕ) → stands names w
+        → held_at name w.names ≡ Some (RequestOf node) → ⊥ };
 
     /// No set has a task.
     ghost no_tasks: { (names : Self) (w : World) (n : ℕ) → stands names w → group_of n w.names ≡ None };
