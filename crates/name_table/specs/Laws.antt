@@ -10,7 +10,7 @@ use Rattle.promise_names.specs.Once.{AreOnce}
 use Rattle.promise_names.specs.declared.names.Held.{Held}
 use Rattle.promise_names.specs.declared.names.Held.TheVariants.{Promise, CellOf, AskCell, HubOf, Group, Canceler, RequestOf}
 use Rattle.name_table.specs.declared.entries.Entry.{Entry}
-use Rattle.promise_names.specs.Held.{held_shown, root_of, IsLoopsOwn}
+use Rattle.promise_names.specs.Held.{held_shown, root_of, IsLoopsOwn, HasNoneListed}
 use Rattle.name_table.specs.Entries.{IsRising, held_in, names_of}
 use Rattle.name_table.specs.Table.{Table, Stands, AreLoopsOwn, trees, root_at}
 
@@ -81,23 +81,27 @@ pub table_roots_are : (t : Table) (w : World) (name root : ℕ) → Stands t w �
 table_roots_are t w name root st is = root_held name root t.entries (sym (ap (held_at name) st.names) ∙ is)
 
 request_case : (node : Option ℕ) (h : Held) → IsLoopsOwn h → ◌≡◌ {A = Option Seen} (Some (held_shown [] h)) (Some (RequestSeen node)) → ⊥
-request_case node (Promise link) own is = absurd cc
-request_case node (CellOf cell) own is = absurd cc
-request_case node (AskCell cell taken) own is = own
-request_case node (HubOf hub) own is = absurd cc
-request_case node (Group error empty) own is = absurd cc
-request_case node Canceler own is = absurd cc
-request_case node (RequestOf request) own is = own
+request_case request (Promise link) own is = absurd cc
+request_case request (CellOf cell) own is = absurd cc
+request_case request (AskCell cell taken) own is = own
+request_case request (HubOf hub) own is = absurd cc
+request_case request (Group error empty) own is = absurd cc
+request_case request Canceler own is = absurd cc
+request_case request (RequestOf held) own is = own
 
 request_step : (name : ℕ) (node : Option ℕ) (e : Entry) (es : List Entry) (b : Bool) → nat_eq e.name.0 name ≡ b → IsLoopsOwn e.held → (held_at name (names_of es) ≡ Some (RequestSeen node) → ⊥)
     → held_at name (names_of (e ∷ es)) ≡ Some (RequestSeen node) → ⊥
-request_step name node e es true t own ih is = request_case node e.held own (rw t at is)
-request_step name node e es false t own ih is = ih (rw t at is)
+request_step name request e es true t own ih is = request_case request e.held own (rw t at is)
+request_step name request e es false t own ih is = ih (rw t at is)
 
 no_request : (name : ℕ) (node : Option ℕ) (es : List Entry) → AreLoopsOwn es → held_at name (names_of es) ≡ Some (RequestSeen node) → ⊥
-no_request name node [] own is = absurd cc
-no_request name node (e ∷ es) own is = request_step name node e es (nat_eq e.name.0 name) refl own.0 (no_request name node es own.1) is
+no_request name request [] own is = absurd cc
+no_request name request (e ∷ es) own is = request_step name request e es (nat_eq e.name.0 name) refl own.0 (no_request name request es own.1) is
 
 -- no name is a request's
 pub table_no_requests : (t : Table) (w : World) (name : ℕ) (node : Option ℕ) → Stands t w → held_at name w.names ≡ Some (RequestSeen node) → ⊥
-table_no_requests t w name node st is = no_request name node t.entries st.no_asks (sym (ap (held_at name) st.names) ∙ is)
+table_no_requests t w name request st is = no_request name request t.entries st.no_asks (sym (ap (held_at name) st.names) ∙ is)
+
+-- nothing is listed
+pub table_none_listed : (t : Table) (w : World) → Stands t w → HasNoneListed w
+table_none_listed t w st = record { asks = st.asks; ended = st.ended; abandoned = st.abandoned }

@@ -62,7 +62,7 @@ HasRoot old new name root = (new name ≡ root) × ((other : ℕ) → (other ≡
 -- the loop's own: neither the cell of an ask nor a request of another loop
 abbrev pub IsLoopsOwn : HeldCase → Type 0
 IsLoopsOwn (AskCase cell is_taken) = ⊥
-IsLoopsOwn (RequestCase node) = ⊥
+IsLoopsOwn (RequestCase request) = ⊥
 IsLoopsOwn other = Unit {0}
 
 -- the number of a name that may be absent
@@ -106,3 +106,9 @@ abbrev pub left_world : ℕ → Leaving → World → World
 left_world n Nothing w = w
 left_world n CellLeaves w = abandoned_as (ask_of n w.names) w
 left_world n (WrapLeaves canceler) w = without_wrap n canceler.0 w
+
+-- no ask, no ended request and no abandoned cell waits to be taken
+pub record HasNoneListed (w : World) : Type 0 where
+  pub asks : w.asks ≡ []
+  pub ended : w.ended ≡ []
+  pub abandoned : w.abandoned ≡ []

@@ -7,7 +7,7 @@ ghost use Rattle.kj_model.specs.Fire.{group_of, without_left_over};
 ghost use Rattle.promise_nodes.specs.Shown.{link_number};
 ghost use Rattle.promise_nodes.specs.Kept.{SameNames};
 ghost use Rattle.promise_names.specs.Once.{AreOnce};
-ghost use Rattle.promise_names.specs.Held.{held_shown, SeesHeld, IsListless, IsLoopsOwn, HasRoot, root_of, name_number, awaited_name, first_name, root_renamed, roots_replaced, with_left_over, with_lost, stopped_world, left_world, AreApart};
+ghost use Rattle.promise_names.specs.Held.{held_shown, SeesHeld, IsListless, IsLoopsOwn, HasRoot, root_of, name_number, awaited_name, first_name, root_renamed, roots_replaced, with_left_over, with_lost, stopped_world, left_world, AreApart, HasNoneListed};
 ghost use Rattle.promise_names.specs.declared.names.Held.{Held};
 
 use kj_base::{Link, Name, StepId};
@@ -184,6 +184,9 @@ pub trait Names {
 
     /// The root of each promise in each world that it stands for.
     ghost roots_are: { (names : Self) (w : World) (name root : ℕ) → stands names w → held_at name w.names ≡ Some (Promise root) → roots names name ≡ Some root };
+
+    /// No asks, ended requests or abandoned cells are listed.
+    ghost none_listed: { (names : Self) (w : World) → stands names w → HasNoneListed w };
 
     /// No name is a request's.
     ghost no_requests: { (names : Self) (w : World) (name : ℕ) (node : Option ℕ) → stands names w
