@@ -8,6 +8,9 @@ use Rattle.kj_model.specs.Apply.{Refused, apply}
 use Rattle.kj_model.specs.Calls.{CallApply, CallTurn, Turned, Fired, NoMemory, more_turns, run, turn}
 use Rattle.kj_model.specs.World.{World, State, Setting, RequestOf, held_at}
 use Rattle.kj_ownership.proofs.Calls.{call_keeps, rests_of}
+use Rattle.kj_ownership.proofs.Requests.{fires_no_request}
+use Rattle.kj_ownership.specs.Kept.{Kept}
+use Rattle.kj_ownership.specs.Memory.{FindsMemory}
 use Rattle.promise_apply.specs.Applying.{IsApplied}
 use Rattle.promise_turns.specs.Acting.{Acts}
 use Rattle.promise_turns.specs.Turns.{MayTurn, turned_as, turned_of}
@@ -49,7 +52,7 @@ turn_called rule OldNodes OldNames NewNodes NewNames turned a b k l none acts = 
   leads = λ answer s old agrees lacking.
       let setting : Setting = setting_of rule answer in
       let rests = rests_of s old.kept in
-      let may : MayTurn setting s = (old.takes, rests, λ running. ?) in
+      let may : MayTurn setting s = (old.takes, rests, λ running. fires_no_request s rests running (λ name node. none s.world name node old.stands.1)) in
       let r = acts.goes answer s old.stands may agrees (missing_of answer s.past acts.items acts.missing lacking) in
       let here : r.state ≡ (turn setting s).0 = ap (λ (x : State × Turned). x.0) r.ends in
       record {
