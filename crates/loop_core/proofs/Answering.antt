@@ -1,23 +1,26 @@
 -- Answers that give what a record tells, and never lack memory.
-use Rattle.std.proofs.Common.{◌≡◌, ℕ, zero, suc, List, [], ◌∷◌, ◌++◌, Option, None, Some, refl, sym, subst, ap, length, append_assoc}
+use Rattle.std.proofs.Common.{◌≡◌, ◌∙◌, ℕ, zero, suc, List, [], ◌∷◌, ◌++◌, Option, None, Some, refl, sym, subst, ap, length, append_assoc}
 use Rattle.kj_base.specs.Commands.{Action}
 use Rattle.kj_base.specs.Record.{Item, Run, Free}
 use Rattle.kj_model.specs.Log.{passing}
 use Rattle.promise_walks.specs.Values.{Answer, Agrees}
 
 -- what the item at this place gave
-action_at : ℕ → List Item → Action
+abbrev action_at : ℕ → List Item → Action
 action_at k [] = passing
 action_at zero (Run n step input action ∷ items) = action
 action_at zero (Free n ∷ items) = passing
 action_at (suc k) (item ∷ items) = action_at k items
 
 -- each run gives what stands at its place in this record
-pub told_answer : List Item → Answer
+abbrev pub told_answer : List Item → Answer
 told_answer whole past step = Some (action_at (length past) whole)
 
+none_not_some : {a : Action} → Some a ≡ None → ⊥
+none_not_some e = absurd (cc e)
+
 pub always_there : (whole past : List Item) (step : ℕ) → told_answer whole past step ≡ None → ⊥
-always_there whole past step e = cc
+always_there whole past step e = none_not_some e
 
 at_front : (front items : List Item) (n step : ℕ) (input : _) (action : Action)
     → action_at (length front) (front ++ Run n step input action ∷ items) ≡ action

@@ -1,5 +1,5 @@
 -- What a call did, part by part.
-use Rattle.std.proofs.Common.{◌≡◌, ◌∙◌, ℕ, List, [], ◌∷◌, ◌++◌, Option, None, Some, Bool, true, false, is_some, map, refl, sym, ap, subst, append_assoc}
+use Rattle.std.proofs.Common.{◌≡◌, ◌∙◌, arith, ℕ, List, [], ◌∷◌, ◌++◌, Option, None, Some, Bool, true, false, is_some, map, refl, sym, ap, subst, append_assoc}
 use Rattle.std.proofs.lemmas.List.{append-nil}
 use Rattle.kj_base.specs.Counts.{HasLacked, Rose}
 use Rattle.kj_base.specs.Record.{Item, Tells}
@@ -11,12 +11,12 @@ use Rattle.promise_turns.specs.Acting.{IsMissing}
 use Rattle.loop_core.specs.Calls.{AreLacking, CallIs, ComesTo, Lack, has_any}
 
 -- after these items of a call
-behind : List Item → List Lack → List Lack
+abbrev behind : List Item → List Lack → List Lack
 behind xs [] = []
 behind xs (lack ∷ lacks) = record { after = xs ++ lack.after; step = lack.step } ∷ behind xs lacks
 
 -- one lack or none
-pub lacks_of : List Item → Option ℕ → List Lack
+abbrev pub lacks_of : List Item → Option ℕ → List Lack
 lacks_of items None = []
 lacks_of items (Some step) = record { after = items; step = step } ∷ []
 
@@ -29,7 +29,7 @@ counts_of items None k l h = h
 counts_of items (Some step) k l h = h
 
 pub rose_twice : (k l m : ℕ) → Rose k l → Rose l m → Rose k m
-rose_twice k l m a b = omega arith
+rose_twice k l m a b = omega (arith, a, b)
 
 lacked_both : (xs : List Item) (ps qs : List Lack) (k l m : ℕ) → HasLacked (has_any ps) k l → HasLacked (has_any qs) l m → HasLacked (has_any (ps ++ behind xs qs)) k m
 lacked_both xs [] [] k l m a b = b ∙ a

@@ -1,3 +1,3 @@
 pub mod Answering
 pub mod Called
-pub mod Running
+pub mod Turning

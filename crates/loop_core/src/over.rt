@@ -1,17 +1,29 @@
 //! A loop over keepers of nodes and names.
-ghost use Rattle.std.specs.Prelude.{◌≡◌, ◌<◌, ◌≤◌, ◌+◌, ◌^◌, ℕ, [], IfOk, None};
+ghost use Rattle.std.specs.Prelude.{◌≡◌, ◌≤◌, ◌+◌, ℕ, [], IfOk, None, false};
+ghost use Rattle.kj_base.specs.Counts.{Rose};
 ghost use Rattle.kj_base.specs.Queue.{no_events};
-ghost use Rattle.kj_model.specs.World.{new_state};
+ghost use Rattle.kj_model.specs.Apply.{apply};
+ghost use Rattle.kj_model.specs.Calls.{run, turn};
+ghost use Rattle.kj_model.specs.World.{State, new_state};
+ghost use Rattle.promise_commands.specs.Commands.{command_of};
+ghost use Rattle.promise_commands.specs.Refusals.{refusal_of};
+ghost use Rattle.promise_turns.specs.Turns.{turned_as};
+ghost use Rattle.promise_turns.specs.declared.turned.Turned.TheVariants.{NoMemory as NoMemoryTurned};
+ghost use Rattle.loop_core.specs.Calls.{CallIs};
 ghost use Rattle.promise_graph.specs.Standing.{StandsFor};
 ghost use Rattle.name_table.specs.Table.{Stands as NamesStand};
 ghost use Rattle.loop_core.specs.Loops.{StandsAt, TakesNoMore};
 
+use crate::applying::apply_over;
+use crate::running::{run_over, turn_over};
 use kj_base::{Limits, MAX_SLOTS, NoMemory, Queue, Store};
 use name_table::NameTable;
+use promise_commands::{Command, Refused, Steps};
 use promise_eval::{Evaluator, Ground};
 use promise_graph::Graph;
 use promise_names::Names;
 use promise_nodes::Nodes;
+use promise_turns::Turned;
 use std::alloc::Global;
 use std::marker::Model;
 
@@ -31,6 +43,50 @@ impl<N: Nodes + Drop, M: Names + Drop> Model for LoopOver<N, M> {
     ghost view = { λ l. l.over };
 
     ghost invariant = { λ l. M.over l.over.names ≡ [] };
+}
+
+impl<N: Nodes + Drop, M: Names + Drop> LoopOver<N, M> {
+    /// A command of the host, outside all steps: it is refused, and all is as before; or it has its effect. No command
+    /// that this loop knows frees a node, so `steps` are told nothing yet.
+    pub fn apply<S: Steps>(&mut self, command: Command, steps: &mut S) -> Result<(), Refused>
+        ensures applied { CallIs
+            (StandsAt N.rule (N.stands self.old.nodes) (M.stands self.old.names))
+            (StandsAt N.rule (N.stands self.new.nodes) (M.stands self.new.names)) N.rule
+            (λ setting s. apply setting false (command_of command) s)
+            (λ setting s. (s, refusal_of result))
+            (S.told steps.old) (S.told steps.new) (S.lacks steps.old) (S.lacks steps.new) }
+    {
+        apply_over(&mut self.over.ground, &command, steps)
+    }
+
+    /// One turn (kj/async.h, `EventLoop::turn`): the first event of the queue fires. A step that finds no memory stops
+    /// the loop: no later turn fires anything, and only the closing does more.
+    pub fn turn<S: Steps>(&mut self, steps: &mut S) -> Turned
+        ensures turns { CallIs
+            (StandsAt N.rule (N.stands self.old.nodes) (M.stands self.old.names))
+            (StandsAt N.rule (N.stands self.new.nodes) (M.stands self.new.names)) N.rule
+            turn (λ setting. turned_as result)
+            (S.told steps.old) (S.told steps.new) (S.lacks steps.old) (S.lacks steps.new) }
+        ensures memory { (s : State)
+            → StandsAt N.rule (N.stands self.old.nodes) (M.stands self.old.names) s
+            → result ≡ NoMemoryTurned → Rose (S.lacks steps.old) (S.lacks steps.new) }
+    {
+        turn_over(&mut self.over, steps)
+    }
+
+    /// So many turns, or until one doesn't fire (kj/async.h, `EventLoop::run`).
+    pub fn run<S: Steps>(&mut self, turns: u32, steps: &mut S) -> Turned
+        ensures turns { CallIs
+            (StandsAt N.rule (N.stands self.old.nodes) (M.stands self.old.names))
+            (StandsAt N.rule (N.stands self.new.nodes) (M.stands self.new.names)) N.rule
+            (λ setting. run setting turns) (λ setting. turned_as result)
+            (S.told steps.old) (S.told steps.new) (S.lacks steps.old) (S.lacks steps.new) }
+        ensures memory { (s : State)
+            → StandsAt N.rule (N.stands self.old.nodes) (M.stands self.old.names) s
+            → result ≡ NoMemoryTurned → Rose (S.lacks steps.old) (S.lacks steps.new) }
+    {
+        run_over(&mut self.over, turns, steps)
+    }
 }
 
 /// A loop over a store of nodes and an event queue, with its names in a table.

@@ -1,5 +1,5 @@
 -- Commands and turns from state to state.
-use Rattle.std.proofs.Common.{◌≡◌, ◌∙◌, absurd, ℕ, suc, List, [], ◌∷◌, ◌++◌, Option, None, Some, Bool, true, false, refl, sym, ap, subst}
+use Rattle.std.proofs.Common.{◌≡◌, ◌∙◌, ℕ, suc, List, [], ◌∷◌, ◌++◌, Option, None, Some, Bool, true, false, refl, sym, ap, subst}
 use Rattle.std.proofs.lemmas.List.{append-nil}
 use Rattle.kj_base.specs.Commands.{Command}
 use Rattle.kj_base.specs.Counts.{HasLacked, Rose}
