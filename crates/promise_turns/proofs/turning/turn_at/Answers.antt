@@ -17,7 +17,7 @@ returns-then-is_stopped-clause-turns g c =
     let B : World → Type 0 = Both (g.N.Nodes.stands c.fire.new.over.nodes) (g.M.Names.stands c.fire.new.over.names) in
     let C : World → Type 0 = Both (g.N.Nodes.stands c.end.new.over.nodes) (g.M.Names.stands c.end.new.over.names) in
     acts_after A B C g.N.Nodes.rule (FromTaken n) (fired n) (turned_at n) (turned_as NoMemory) event_ended _ _ _ _ c.fire.ensures.acts
-    (λ w stands. (c.end.ensures.nodes w stands.0, subst (λ names. g.M.Names.stands names (event_ended w)) (sym c.end.ensures.names) (g.met.M.Names.nodes_free c.fire.new.over.names w (event_ended w) refl stands.1)))
+    (λ w stands. (c.end.ensures.nodes w stands.0, subst (λ names. g.M.Names.stands names (event_ended w)) (sym c.end.ensures.names) (g.met.M.Names.nodes_free c.fire.new.over.names w (event_ended w) refl stands.1))) (λ w. refl)
     (λ setting s stands. ap (λ (b : Bool). (silent event_ended (fired n setting s), turned_by b)) (c.if-is_stopped.ensures (event_ended (fired n setting s).world) stands.1))
 
 pub returns-clause-turns : goal.returns-clause-turns
@@ -27,5 +27,5 @@ returns-clause-turns g c =
     let B : World → Type 0 = Both (g.N.Nodes.stands c.fire.new.over.nodes) (g.M.Names.stands c.fire.new.over.names) in
     let C : World → Type 0 = Both (g.N.Nodes.stands c.end.new.over.nodes) (g.M.Names.stands c.end.new.over.names) in
     acts_after A B C g.N.Nodes.rule (FromTaken n) (fired n) (turned_at n) (turned_as Fired) event_ended _ _ _ _ c.fire.ensures.acts
-    (λ w stands. (c.end.ensures.nodes w stands.0, subst (λ names. g.M.Names.stands names (event_ended w)) (sym c.end.ensures.names) (g.met.M.Names.nodes_free c.fire.new.over.names w (event_ended w) refl stands.1)))
+    (λ w stands. (c.end.ensures.nodes w stands.0, subst (λ names. g.M.Names.stands names (event_ended w)) (sym c.end.ensures.names) (g.met.M.Names.nodes_free c.fire.new.over.names w (event_ended w) refl stands.1))) (λ w. refl)
     (λ setting s stands. ap (λ (b : Bool). (silent event_ended (fired n setting s), turned_by b)) (c.if-is_stopped.ensures (event_ended (fired n setting s).world) stands.1))
