@@ -56,7 +56,7 @@ impl<N: Nodes + Drop, M: Names + Drop> LoopOver<N, M> {
             (λ setting s. (s, refusal_of result))
             (S.told steps.old) (S.told steps.new) (S.lacks steps.old) (S.lacks steps.new) }
     {
-        apply_over(&mut self.over.ground, &command, steps)
+        apply_over(&mut self.over, &command, steps)
     }
 
     /// One turn (kj/async.h, `EventLoop::turn`): the first event of the queue fires. A step that finds no memory stops

@@ -1,7 +1,7 @@
 use Rattle.promise_commands.specs.Commands.{command_of}
 use Rattle.promise_commands.specs.Refusals.{refusal_of}
 use Rattle.loop_core.proofs.Turning.{command_called}
-use Rattle.loop_core.proofs.applying.apply_over.Goals as goal
+use Rattle.loop_core.proofs.applying.apply_on.Goals as goal
 
 pub returns-clause-applied : goal.returns-clause-applied
 returns-clause-applied g c =
