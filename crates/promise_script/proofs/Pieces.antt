@@ -60,7 +60,7 @@ piece_stood (Stands (DoLine c)) n b l bs ls fits = ap (λ (xs : List Body). Some
 piece_stood (Stands TurnLine) n b l bs ls fits = ap (λ (xs : List Body). Some (reading true l xs (ls ++ piece_lines (n + 1) (Stands TurnLine)) None)) (sym (append-nil bs))
 piece_stood (Stands (RunLine k)) n b l bs ls fits = ap (λ (xs : List Body). Some (reading true l xs (ls ++ piece_lines (n + 1) (Stands (RunLine k))) None)) (sym (append-nil bs))
 piece_stood (Bodied s inside x) n b l bs ls fits =
-    inside_stood inside (n + 1) true l bs ls s [] x fits
+    inside_stood inside (n + 1) true l bs ls s [] x (omega (arith, fits))
     ∙ ap (λ (ys : List NumberedLine). Some (reading true l (bs ++ body_with s (commands_of inside) x ∷ []) ys None)) (sym (append-nil ls))
 
 -- the lines of all pieces
