@@ -6,3 +6,4 @@ pub mod Cuts
 pub mod Openings
 pub mod Folds
 pub mod Pieces
+pub mod Sounds
