@@ -7,3 +7,4 @@ pub mod Openings
 pub mod Folds
 pub mod Pieces
 pub mod Sounds
+pub mod Faults

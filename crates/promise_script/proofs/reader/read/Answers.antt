@@ -1,8 +1,6 @@
 -- What was read is what the text says.
-use Rattle.std.proofs.Common.{rules}
-use Rattle.promise_script.proofs.Pieces.{script_complete}
-use Rattle.promise_script.proofs.Sounds.{script_sound}
+use Rattle.promise_script.proofs.Faults.{read_means}
 use Rattle.promise_script.proofs.reader.read.Goals as goal
 
 pub returns : goal.returns
-returns c = let y = script_sound in let x = script_complete in ?
+returns c = read_means c.args.octets.now c.read_lines.result c.read_lines.ensures
