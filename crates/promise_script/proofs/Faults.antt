@@ -116,11 +116,12 @@ can_end : (k : ℕ) (q : Reading) (p : Option Part) → q.part ≡ p → Ends k 
 can_end k q None at =
     ([], made_of q, ap (λ (o : Option Part). cond (is_inside o) (failed (Bad (k + 1))) (Ok (made_of q))) at)
 can_end k q (Some part) at =
-    let read : text_read (codes "input") ≡ Some (Close Input) = refl in
-    (codes "input" ∷ [],
-     record { limits = q.limits; bodies = q.bodies ++ record { step = part.step; action = record { commands = part.commands; ending = Input } } ∷ []; lines = q.lines },
-     ap (λ (o : Option Meaning). went_on (and_then (λ m. stood (k + 1) m q) o) (Err (refused_at (k + 1) (is_inside q.part) (codes "input"))) (λ r. script_read (k + 1) r [])) read
-     ∙ ap (λ (o : Option Part). went_on (part_closed Input o q) (Err (refused_at (k + 1) (is_inside q.part) (codes "input"))) (λ r. script_read (k + 1) r [])) at)
+    let read : text_read (codes "input") ≡ Some (Close Input) = refl in (
+      codes "input" ∷ [],
+      record { limits = q.limits; bodies = q.bodies ++ record { step = part.step; action = record { commands = part.commands; ending = Input } } ∷ []; lines = q.lines },
+      ap (λ (o : Option Meaning). went_on (and_then (λ m. stood (k + 1) m q) o) (Err (refused_at (k + 1) (is_inside q.part) (codes "input"))) (λ r. script_read (k + 1) r [])) read
+          ∙ ap (λ (o : Option Part). went_on (part_closed Input o q) (Err (refused_at (k + 1) (is_inside q.part) (codes "input"))) (λ r. script_read (k + 1) r [])) at,
+    )
 
 stood_begins : (lines : List (List ℕ)) (q : Reading) → lines_stood 0 before_lines lines ≡ Some q → BeginsScript lines
 stood_begins lines q stands =
@@ -150,7 +151,7 @@ open_script : (lines : List (List ℕ)) (q : Reading) → lines_stood 0 before_l
 open_script lines q stands inside s is =
     let t = made_of q in
     let read : failed (Bad (0 + length lines + 1)) ≡ Ok s =
-        sym (all_read lines q stands ∙ ap (λ (b : Bool). cond b (failed (Bad (0 + length lines + 1))) (Ok t)) inside) ∙ script_complete lines s is in
+    sym (all_read lines q stands ∙ ap (λ (b : Bool). cond b (failed (Bad (0 + length lines + 1))) (Ok t)) inside) ∙ script_complete lines s is in
     cc (read)
 
 -- ---- words that are to be built
@@ -259,12 +260,14 @@ StopsAt lines n before line = (q : Reading) × (lines_stood 0 before_lines befor
 faulty_stops : (lines : List (List ℕ)) (n : ℕ) (before : List (List ℕ)) (line : List ℕ) → IsFaulty lines n before line → StopsAt lines n before line
 faulty_stops lines n before line x =
     let found = begins_stood before x.begins in
-    let place : 0 + length before + 1 ≡ n = omega (arith, x.place) in
-    (found.0, found.1,
-     ap (λ (xs : List (List ℕ)). script_read 0 before_lines xs) x.whole
-     ∙ read_behind before (line ∷ x.behind) 0 before_lines found.0 found.1
-     ∙ by found.0 found.1 (line_stood (0 + length before + 1) found.0 line) refl
-     ∙ ap (λ (k : ℕ). failed (refused_at k (is_inside found.0.part) line)) place)
+    let place : 0 + length before + 1 ≡ n = omega (arith, x.place) in (
+      found.0,
+      found.1,
+      ap (λ (xs : List (List ℕ)). script_read 0 before_lines xs) x.whole
+          ∙ read_behind before (line ∷ x.behind) 0 before_lines found.0 found.1
+          ∙ by found.0 found.1 (line_stood (0 + length before + 1) found.0 line) refl
+          ∙ ap (λ (k : ℕ). failed (refused_at k (is_inside found.0.part) line)) place,
+    )
   where
     by : (q : Reading) → lines_stood 0 before_lines before ≡ Some q → (o : Option Reading) → line_stood (0 + length before + 1) q line ≡ o
         → went_on o (failed (refused_at (0 + length before + 1) (is_inside q.part) line)) (λ r. script_read (0 + length before + 1) r x.behind) ≡ failed (refused_at (0 + length before + 1) (is_inside q.part) line)
@@ -324,3 +327,18 @@ some_reading text = by (script_read 0 before_lines (lines_of text)) refl
     by (Err (Bad n)) e = inr (inl (n, refusal_means text (Bad n) e))
     by (Err (NotBuilt n)) e = inr (inr (n, refusal_means text (NotBuilt n) e))
     by (Err NoMemory) e = absurd (refusal_means text NoMemory e)
+
+pub same_bad : (text : List ℕ) (a b : ℕ) → IsBadLine text a → IsBadLine text b → a ≡ b
+same_bad text a b f g = let read : failed (Bad a) ≡ failed (Bad b) = sym (bad_read text a f) ∙ bad_read text b g in cc (read)
+
+pub same_not_built : (text : List ℕ) (a b : ℕ) → IsNotBuiltLine text a → IsNotBuiltLine text b → a ≡ b
+same_not_built text a b f g = let read : failed (NotBuilt a) ≡ failed (NotBuilt b) = sym (not_built_read text a f) ∙ not_built_read text b g in cc (read)
+
+pub script_not_bad : (text : List ℕ) (s : Script) (n : ℕ) → IsScriptText text s → IsBadLine text n → ⊥
+script_not_bad text s n f g = let read : passed s ≡ failed (Bad n) = sym (script_complete (lines_of text) s f) ∙ bad_read text n g in cc (read)
+
+pub script_built : (text : List ℕ) (s : Script) (n : ℕ) → IsScriptText text s → IsNotBuiltLine text n → ⊥
+script_built text s n f g = let read : passed s ≡ failed (NotBuilt n) = sym (script_complete (lines_of text) s f) ∙ not_built_read text n g in cc (read)
+
+pub bad_or_not_built : (text : List ℕ) (a b : ℕ) → IsBadLine text a → IsNotBuiltLine text b → ⊥
+bad_or_not_built text a b f g = let read : failed (Bad a) ≡ failed (NotBuilt b) = sym (bad_read text a f) ∙ not_built_read text b g in cc (read)

@@ -236,7 +236,7 @@ pub script_sound : (lines : List (List ℕ)) (s : Script) → script_read 0 befo
 script_sound lines s e =
     let found = found_whole lines 0 s e in
     let place : 0 + found.remarks + length (limits_meanings found.limits) + 1 ≡ found.remarks + length (limits_meanings s.limits) + 1 =
-        omega (arith, ap (λ (l : Option Limits). length (limits_meanings l)) found.said) in
+    omega (arith, ap (λ (l : Option Limits). length (limits_meanings l)) found.said) in
     record {
       remarks = found.remarks;
       pieces = found.pieces;

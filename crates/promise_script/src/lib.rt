@@ -13,7 +13,7 @@ mod reading;
 mod tests;
 mod verbs;
 
-pub use laws::one_line;
+pub use laws::{one_line, one_script, some_script};
 pub use lines::read_line;
 pub use meaning::{MAX_COMMANDS, MAX_TURNS, MAX_WORDS, Meaning, SLOTS_STEP};
 pub use reader::{ReadRefused, read};
