@@ -10,6 +10,8 @@ mod parts;
 mod reader;
 mod reading;
 #[cfg(test)]
+mod reading_tests;
+#[cfg(test)]
 mod tests;
 mod verbs;
 
