@@ -8,3 +8,4 @@ pub mod Folds
 pub mod Pieces
 pub mod Sounds
 pub mod Faults
+pub mod Fits

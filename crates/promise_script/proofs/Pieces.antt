@@ -1,5 +1,5 @@
 -- The lines of a script are read as the script.
-use Rattle.std.proofs.Common.{◌≡◌, ℕ, zero, suc, ◌<◌, ◌≤◌, ◌+◌, List, [], ◌∷◌, ◌++◌, Option, None, Some, Result, Ok, Err, Bool, true, false, cond, nat_lt, refl, sym, ap, ◌∙◌, arith, length, map, replicate}
+use Rattle.std.proofs.Common.{◌≡◌, ℕ, zero, suc, ◌<◌, ◌≤◌, ◌+◌, List, [], ◌∷◌, ◌++◌, Option, None, Some, Result, Ok, Bool, true, false, cond, nat_lt, sym, ap, ◌∙◌, arith, length, replicate}
 use Rattle.std.specs.Prelude.{flat_map}
 use Rattle.std.proofs.lemmas.List.{append_assoc, append-nil, length-append}
 use Rattle.std.proofs.lemmas.Bool.Decides.{nat_tests}
@@ -7,20 +7,19 @@ use Rattle.kj_base.specs.declared.numbers.StepId.{StepId}
 use Rattle.kj_base.specs.declared.numbers.Limits.{Limits}
 use Rattle.kj_base.specs.declared.endings.Ending.{Ending}
 use Rattle.promise_commands.specs.declared.command.Command.{Command}
-use Rattle.promise_commands.specs.declared.script.Line.{Line}
 use Rattle.promise_commands.specs.declared.script.Line.TheVariants.{Do as DoLine, Turn as TurnLine, Run as RunLine}
 use Rattle.promise_commands.specs.declared.script.NumberedLine.{NumberedLine}
 use Rattle.promise_commands.specs.declared.script.Body.{Body}
 use Rattle.promise_commands.specs.declared.script.Script.{Script}
 use Rattle.promise_script.specs.declared.meaning.Meaning.{Meaning}
-use Rattle.promise_script.specs.declared.meaning.Meaning.TheVariants.{Nothing, Limits as LimitsLine, Do, Turn, Run, Step, Close}
+use Rattle.promise_script.specs.declared.meaning.Meaning.TheVariants.{Nothing}
 use Rattle.promise_script.specs.declared.meaning.TheConstants.{MAX_COMMANDS}
 use Rattle.promise_script.specs.declared.reader.ReadRefused.{ReadRefused}
 use Rattle.promise_script.specs.declared.reading.Part.{Part}
 use Rattle.promise_script.specs.declared.reading.Reading.{Reading}
 use Rattle.promise_script.specs.Decode.{and_then}
-use Rattle.promise_script.specs.Assembly.{stood, with_command, before_lines, script_read}
-use Rattle.promise_script.specs.Scripts.{Piece, Remark, Stands, Bodied, line_meaning, inside_meaning, body_meanings, piece_meanings, limits_meanings, commands_of, body_with, piece_bodies, piece_lines, lines_in, PieceFits, PiecesFit, MeanAll, IsScript}
+use Rattle.promise_script.specs.Assembly.{before_lines, script_read}
+use Rattle.promise_script.specs.Scripts.{Piece, Remark, Stands, Bodied, body_meanings, piece_meanings, limits_meanings, commands_of, body_with, piece_bodies, piece_lines, lines_in, PieceFits, PiecesFit, IsScript}
 use Rattle.promise_script.proofs.Folds.{lines_stood, meanings_stood, lines_mean, read_behind, meanings_behind}
 
 -- a reading by its parts

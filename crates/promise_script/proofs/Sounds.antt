@@ -1,7 +1,7 @@
 -- What lines are read as, they are.
-use Rattle.std.proofs.Common.{◌≡◌, ℕ, zero, suc, ◌<◌, ◌≤◌, ◌+◌, List, [], ◌∷◌, ◌++◌, Option, None, Some, Result, Ok, Err, Bool, true, false, cond, nat_lt, lit≤, refl, sym, ap, ◌∙◌, subst, arith, length, map, replicate}
+use Rattle.std.proofs.Common.{◌≡◌, ℕ, suc, ◌<◌, ◌≤◌, ◌+◌, List, [], ◌∷◌, ◌++◌, Option, None, Some, Ok, Err, Bool, true, false, cond, nat_lt, lit≤, refl, sym, ap, ◌∙◌, subst, arith, length, replicate}
 use Rattle.std.specs.Prelude.{flat_map}
-use Rattle.std.proofs.lemmas.List.{append_assoc, append-nil, length-append, length-map}
+use Rattle.std.proofs.lemmas.List.{append_assoc, append-nil, length-append}
 use Rattle.std.proofs.lemmas.Bool.Decides.{nat_tests}
 use Rattle.kj_base.specs.declared.numbers.StepId.{StepId}
 use Rattle.kj_base.specs.declared.numbers.Limits.{Limits}
@@ -15,13 +15,11 @@ use Rattle.promise_commands.specs.declared.script.Script.{Script}
 use Rattle.promise_script.specs.declared.meaning.Meaning.{Meaning}
 use Rattle.promise_script.specs.declared.meaning.Meaning.TheVariants.{Nothing, Limits as LimitsLine, Do, Turn, Run, Step, Close}
 use Rattle.promise_script.specs.declared.meaning.TheConstants.{MAX_COMMANDS}
-use Rattle.promise_script.specs.declared.reader.ReadRefused.{ReadRefused}
 use Rattle.promise_script.specs.declared.reading.Part.{Part}
-use Rattle.promise_script.specs.declared.reading.Reading.{Reading}
 use Rattle.promise_script.specs.ScriptText.{Means}
 use Rattle.promise_script.specs.Decode.{and_then, text_read}
 use Rattle.promise_script.specs.Assembly.{stood, is_inside, refused_at, went_on, ended, before_lines, script_read}
-use Rattle.promise_script.specs.Scripts.{Piece, Remark, Stands, Bodied, line_meaning, inside_meaning, body_meanings, piece_meanings, limits_meanings, commands_of, body_with, piece_bodies, piece_lines, lines_in, PieceFits, PiecesFit, MeanAll, IsScript}
+use Rattle.promise_script.specs.Scripts.{Piece, Remark, Stands, Bodied, line_meaning, body_meanings, piece_meanings, limits_meanings, commands_of, body_with, piece_bodies, lines_in, PiecesFit, MeanAll, IsScript}
 use Rattle.promise_script.proofs.Meanings.{text_sound}
 use Rattle.promise_script.proofs.Pieces.{reading, part_with}
 

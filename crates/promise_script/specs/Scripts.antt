@@ -1,5 +1,6 @@
 -- The text of scripts: how lines make a script, and which line of a text is at fault.
-use Rattle.std.specs.Prelude.{◌≡◌, ℕ, ◌+◌, ◌≤◌, ◌⊎◌, List, [], ◌∷◌, ◌++◌, Option, None, Some, Bool, true, false, cond, codes, bytes_eq, length, map, flat_map, replicate, Result, Ok, Err}
+use Rattle.std.specs.Prelude.{◌≡◌, ℕ, ◌+◌, ◌≤◌, ◌⊎◌, List, [], ◌∷◌, ◌++◌, Option, None, Some, Bool, true, false, cond, codes, bytes_eq, length, map, flat_map, replicate, IfSome, Result, Ok, Err}
+use Rattle.std.specs.List.{All as EachOf}
 use Rattle.kj_base.specs.declared.numbers.StepId.{StepId}
 use Rattle.kj_base.specs.declared.numbers.Limits.{Limits}
 use Rattle.kj_base.specs.declared.endings.Ending.{Ending}
@@ -9,12 +10,12 @@ use Rattle.promise_commands.specs.declared.script.Line.TheVariants.{Do as DoLine
 use Rattle.promise_commands.specs.declared.script.NumberedLine.{NumberedLine}
 use Rattle.promise_commands.specs.declared.script.Body.{Body}
 use Rattle.promise_commands.specs.declared.script.Script.{Script}
-use Rattle.promise_script.specs.declared.meaning.TheConstants.{MAX_COMMANDS}
+use Rattle.promise_script.specs.declared.meaning.TheConstants.{MAX_COMMANDS, MAX_TURNS}
 use Rattle.promise_script.specs.declared.meaning.Meaning.{Meaning}
 use Rattle.promise_script.specs.declared.meaning.Meaning.TheVariants.{Nothing, Limits as LimitsLine, Do, Turn, Run, Step, Close}
 use Rattle.promise_script.specs.declared.reader.ReadRefused.{ReadRefused}
 use Rattle.promise_script.specs.declared.reader.ReadRefused.TheVariants.{Bad, NotBuilt, NoMemory}
-use Rattle.promise_script.specs.ScriptText.{Means, lines_of, first_word}
+use Rattle.promise_script.specs.ScriptText.{LimitsFit, Means, lines_of, first_word}
 
 -- ---- the pieces of a script
 
@@ -108,6 +109,17 @@ pub record IsScript (lines : List (List ℕ)) (script : Script) : Type 0 where
 -- the octets are the text of this script
 abbrev pub IsScriptText : List ℕ → Script → Type 0
 IsScriptText text script = IsScript (lines_of text) script
+
+-- a line outside bodies has few turns
+abbrev pub LineFits : Line → Type 0
+LineFits (DoLine command) = Unit {0}
+LineFits TurnLine = Unit {0}
+LineFits (RunLine turns) = turns ≤ MAX_TURNS
+
+-- the limits are those that a loop may have, and no line has more turns than one may have
+pub record ScriptFits (script : Script) : Type 0 where
+  pub limits : IfSome script.limits LimitsFit
+  pub lines : EachOf (λ (x : NumberedLine). LineFits x.line) script.lines
 
 -- ---- faults
 

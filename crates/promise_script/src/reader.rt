@@ -2,7 +2,7 @@
 ghost use Rattle.std.specs.Prelude.{true, ◌≡◌, ◌<◌, ◌≤◌, ◌+◌, ◌^◌, ◌==◌, ◌∷◌, IfOk, length};
 ghost use Rattle.std.specs.List.{position};
 ghost use Rattle.promise_script.specs.ScriptText.{lines_of, first_word};
-ghost use Rattle.promise_script.specs.Scripts.{IsReadAs};
+ghost use Rattle.promise_script.specs.Scripts.{IsReadAs, ScriptFits};
 ghost use Rattle.promise_script.specs.Assembly.{Answers, line_stood, unbuilt_command, refused_at, is_inside, ended, script_read, before_lines};
 
 use crate::lines::find_meaning;
@@ -131,7 +131,8 @@ fn finish(reading: Reading, number: u32) -> Result<Script, ReadRefused>
 /// script has behind the lines before it, or that memory ran out.
 pub fn read(alloc: Global, octets: &[u8]) -> Result<Script, ReadRefused>
     requires { length octets.now < 2 ^ 32 }
-    ensures { IsReadAs octets.now result }
+    ensures text { IsReadAs octets.now result }
+    ensures fits { IfOk result (λ script. ScriptFits script) }
 {
     read_lines(alloc, octets)
 }
