@@ -1,5 +1,5 @@
 -- What turns answer, against the definitions.
-use Rattle.std.specs.Prelude.{◌≡◌, ℕ, false}
+use Rattle.std.specs.Prelude.{◌≡◌, ℕ, Bool, true, false}
 use Rattle.kj_model.specs.World.{State, Setting}
 use Rattle.kj_model.specs.Changes.{silent}
 use Rattle.kj_model.specs.Calls.{Turned, Fired, Idle, NoMemory, Stopped, after_turn}
@@ -17,6 +17,11 @@ turned_of FiredCase = Fired
 turned_of IdleCase = Idle
 turned_of NoMemoryCase = NoMemory
 turned_of StoppedCase = Stopped
+
+-- whether a step of this turn found no memory
+abbrev pub lacked_memory : TurnedCase → Bool
+lacked_memory NoMemoryCase = true
+lacked_memory other = false
 
 -- a state with this answer
 abbrev pub turned_as : TurnedCase → State → State × Turned
