@@ -2,6 +2,3 @@
 #![tactic(auto)]
 
 mod lines;
-mod run;
-
-pub use run::run_script;

@@ -11,6 +11,7 @@ pub fn one_output()
         → Gives form input s a → Gives form input t b → (s ≡ t) × (a ≡ b) }
 {
     promise_script::one_script();
+    promise_script::some_script();
     conn_record::one_recording();
     http_core::one_output();
 }
