@@ -11,6 +11,7 @@ use Rattle.kj_model.specs.Free.{usual}
 use Rattle.kj_model.specs.Listening.{announced, join_ready}
 use Rattle.kj_model.specs.Value.{Given, Gave, Took, value, value_link, freed, run_step}
 use Rattle.kj_model.specs.Fire.{replaced, chain_ended, kept_at, keeps, kept_then, kept_from, each_announced, branches_of, branches_announced, other_side, tree_freed, race_won, race_fired, announced_if, all_fired, fast_announced, join_fired, side_fired_under, side_fired_by, side_fired, without_task, group_of, group_error, group_left, set_left, task_stepped, error_run, task_ended, task_valued, request_valued, fire_form, with_firing, fire}
+use Rattle.kj_ownership.specs.Memory.{FindsMemory}
 use Rattle.kj_ownership.proofs.KeepsRunning.{Runs, announced_runs, listened_runs, emptied_runs, free_runs}
 use Rattle.kj_ownership.proofs.Lacks.{Lacked, Leaves, value_leaves, link_leaves, step_leaves}
 
@@ -121,7 +122,7 @@ ended_goes : (setting : Setting) (n : ℕ) (o : Outcome) (step : Option ℕ) (s 
 ended_goes setting n (Value words) step s = inl refl
 ended_goes setting n (Broken exception) step s = error_goes setting n (Broken exception) step s
 
-goes_as : (setting : Setting) (b c : Bool) (t : State) → b ≡ c → Goes setting b t → Goes setting c t
+pub goes_as : (setting : Setting) (b c : Bool) (t : State) → b ≡ c → Goes setting b t → Goes setting c t
 goes_as setting b c t e (inl g) = inl (g ∙ e)
 goes_as setting b c t e (inr l) = inr l
 
@@ -139,7 +140,7 @@ request_goes setting b n name t None s h = inr h
 request_goes setting b n name t (Some o) s h = inl (freed_runs t s ∙ h)
 
 -- each form
-form_goes : (setting : Setting) (n : ℕ) (o : Option Form) (s : State) → Goes setting s.world.stopped (fire_form setting n o s)
+pub form_goes : (setting : Setting) (n : ℕ) (o : Option Form) (s : State) → Goes setting s.world.stopped (fire_form setting n o s)
 form_goes setting n (Some (Chain link)) s = let r = value_link setting link s in chain_goes setting s.world.stopped n link r.1 r.0 (link_leaves setting link s)
 form_goes setting n (Some (Eager content)) s = kept_goes setting (announced DepthFirst n) n content s (announced_runs DepthFirst n)
 form_goes setting n (Some (Wrap canceler content)) s = kept_goes setting (announced DepthFirst n) n content s (announced_runs DepthFirst n)
@@ -162,3 +163,8 @@ fire_goes setting n s =
     let s1 = silent (with_firing (Some n)) s in
     let t = fire_form setting n (form_at n s.world.nodes) s1 in
     silent_goes setting s.world.stopped (with_firing None) t (λ w. refl) (form_goes setting n (form_at n s.world.nodes) s1)
+
+-- where steps find memory the loop runs on
+pub found : (setting : Setting) (b : Bool) (t : State) → FindsMemory setting → Goes setting b t → t.world.stopped ≡ b
+found setting b t finds (inl g) = g
+found setting b t finds (inr l) = absurd (finds t.past l.lacks.0 l.lacks.1)

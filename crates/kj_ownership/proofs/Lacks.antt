@@ -109,3 +109,10 @@ value_leaves setting n s = value_to_leaves setting (depth_of s.world) n s
 -- that of the Then under a Chain
 pub link_leaves : (setting : Setting) (n : ℕ) (s : State) → Leaving setting s.world.stopped (value_link setting n s)
 link_leaves setting n s = then_leaves setting (value setting) true n (form_at n s.world.nodes) s (value_leaves setting)
+
+-- one that gives nothing stops the loop
+pub value_stops : (setting : Setting) (n : ℕ) (s : State) → (value setting n s).1 ≡ None → (value setting n s).0.world.stopped ≡ true
+value_stops setting n s e = let r = value setting n s in (lacked_of setting s.world.stopped r.1 r.0 (value_leaves setting n s) e).stopped
+
+pub link_stops : (setting : Setting) (n : ℕ) (s : State) → (value_link setting n s).1 ≡ None → (value_link setting n s).0.world.stopped ≡ true
+link_stops setting n s e = let r = value_link setting n s in (lacked_of setting s.world.stopped r.1 r.0 (link_leaves setting n s) e).stopped

@@ -7,7 +7,7 @@ use Rattle.kj_model.specs.Changes.{silent}
 use Rattle.kj_model.specs.Fire.{fire}
 use Rattle.kj_model.specs.Calls.{Turned, Fired, Idle, NoMemory, Stopped, rewound_world, taken_world, turned_by, turn_at, turn_unless, turn, more_turns, run}
 use Rattle.kj_ownership.specs.Memory.{FindsMemory, LacksMemory}
-use Rattle.kj_ownership.proofs.EventLacks.{Goes, silent_goes, fire_goes}
+use Rattle.kj_ownership.proofs.EventLacks.{Goes, goes_as, silent_goes, fire_goes, found}
 
 -- a turn of a loop that runs
 event_goes : (setting : Setting) (n : ℕ) (s : State) → Goes setting s.world.stopped (silent rewound_world (fire setting n (silent taken_world s)))
@@ -64,21 +64,13 @@ lacked_in : (setting : Setting) (t : State) → Goes setting false t → t.world
 lacked_in setting t (inl g) e = absurd (false≢true (sym g ∙ e))
 lacked_in setting t (inr l) e = l.lacks
 
-goes_from : (setting : Setting) (b c : Bool) (t : State) → b ≡ c → Goes setting b t → Goes setting c t
-goes_from setting b c t e (inl g) = inl (g ∙ e)
-goes_from setting b c t e (inr l) = inr l
-
 pub turn_lacks : (setting : Setting) (s : State) → (turn setting s).1 ≡ NoMemory → LacksMemory setting (turn setting s).0.past
 turn_lacks setting s e =
     let told = turn_tells setting s e in
     let t = (turn setting s).0 in
-    lacked_in setting t (goes_from setting s.world.stopped false t told.0 (turn_goes setting s)) told.1
+    lacked_in setting t (goes_as setting s.world.stopped false t told.0 (turn_goes setting s)) told.1
 
 -- where steps find memory the loop runs on
-found : (setting : Setting) (b : Bool) (t : State) → FindsMemory setting → Goes setting b t → t.world.stopped ≡ b
-found setting b t finds (inl g) = g
-found setting b t finds (inr l) = absurd (finds t.past l.lacks.0 l.lacks.1)
-
 pub turn_runs_on : (setting : Setting) (s : State) → FindsMemory setting → (turn setting s).0.world.stopped ≡ s.world.stopped
 turn_runs_on setting s finds = found setting s.world.stopped (turn setting s).0 finds (turn_goes setting s)
 

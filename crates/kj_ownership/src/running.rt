@@ -19,8 +19,8 @@ pub fn requests_are_named()
         → NamesNoRequest s.world → FiresNoRequest s.world }
 {}
 
-/// Where steps always find memory no turn, no run of turns and no wait answers that there was none, and turns don't stop
-/// the loop.
+/// Where steps always find memory no turn, no run of turns and no wait answers that there was none, and turns
+/// don't stop the loop.
 pub fn memory_keeps_loops_running()
     ensures turn { (setting : Setting) (s : State) → FindsMemory setting
         → (turn setting s).1 ≡ NoMemory → ⊥ }
@@ -34,8 +34,8 @@ pub fn memory_keeps_loops_running()
         → (run setting turns s).0.world.stopped ≡ s.world.stopped }
 {}
 
-/// A turn answers that there was no memory just where it stops a loop that runs, and then some step finds none after all
-/// that was told; the same of the last turn of a run.
+/// A turn answers that there was no memory just where it stops a loop that runs, and then some step finds none
+/// after all that was told; the same of the last turn of a run.
 pub fn only_a_lack_stops()
     ensures turn { (setting : Setting) (s : State)
         → (turn setting s).1 ≡ NoMemory → LacksMemory setting (turn setting s).0.past }
