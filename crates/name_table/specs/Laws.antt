@@ -3,10 +3,10 @@ use Rattle.std.proofs.Common.{◌≡◌, ℕ, ◌<◌, Bool, true, false, List, 
 use Rattle.std.specs.Prelude.{nat_eq}
 use Rattle.std.specs.List.{AllByRecursion}
 use Rattle.std.proofs.lemmas.Bool.Decides.{nat_tests}
-use Rattle.kj_model.specs.World.{World, Held as Seen, Promise as PromiseSeen, RequestOf as RequestSeen, held_at}
+use Rattle.kj_model.specs.World.{World, Named, Held as Seen, Promise as PromiseSeen, RequestOf as RequestSeen, held_at}
 use Rattle.kj_model.specs.Fire.{group_of}
 use Rattle.promise_nodes.specs.Kept.{SameNames}
-use Rattle.promise_names.specs.Once.{AreOnce}
+use Rattle.promise_names.specs.Once.{AreOnce, AreRising}
 use Rattle.promise_names.specs.declared.names.Held.{Held}
 use Rattle.promise_names.specs.declared.names.Held.TheVariants.{Promise, CellOf, AskCell, HubOf, Group, Canceler, RequestOf}
 use Rattle.name_table.specs.declared.entries.Entry.{Entry}
@@ -53,6 +53,18 @@ rising_once (e ∷ es) r = (not_later e.name.0 es r.0, rising_once es r.1)
 -- names stand once
 pub table_once : (t : Table) (w : World) → Stands t w → AreOnce w.names
 table_once t w st = subst AreOnce (sym st.names) (rising_once t.entries st.rising)
+
+shown_below : (n : ℕ) (es : List Entry) → AllByRecursion (λ (later : Entry). n < later.name.0) es → AllByRecursion (λ (later : Named). n < later.name) (names_of es)
+shown_below n [] all = tt
+shown_below n (e ∷ es) all = (all.0, shown_below n es all.1)
+
+shown_rising : (es : List Entry) → IsRising es → AreRising (names_of es)
+shown_rising [] r = tt
+shown_rising (e ∷ es) r = (shown_below e.name.0 es r.0, shown_rising es r.1)
+
+-- names rise
+pub table_rising : (t : Table) (w : World) → Stands t w → AreRising w.names
+table_rising t w st = subst AreRising (sym st.names) (shown_rising t.entries st.rising)
 
 -- the limit is the world's
 pub table_limit_is : (t : Table) (w : World) → Stands t w → w.limits.names ≡ t.limit

@@ -135,7 +135,7 @@ impl Names for NameTable {
         left_over::drop_tree(&mut self.over, tree);
     }
 
-    ghost use Rattle.name_table.specs.Laws.{table_nodes_free, table_over_is, table_no_tasks, table_no_requests, table_none_listed, table_once, table_limit_is, table_roots_are};
+    ghost use Rattle.name_table.specs.Laws.{table_nodes_free, table_over_is, table_no_tasks, table_no_requests, table_none_listed, table_once, table_rising, table_limit_is, table_roots_are};
 
     ghost nodes_free = { table_nodes_free };
 
@@ -146,6 +146,8 @@ impl Names for NameTable {
     ghost none_listed = { table_none_listed };
 
     ghost no_tasks = { table_no_tasks };
+
+    ghost rising = { table_rising };
 
     ghost once = { table_once };
 

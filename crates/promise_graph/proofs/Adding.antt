@@ -27,10 +27,10 @@ use Rattle.promise_graph.proofs.Falling.{taken_by, taken_out, untaken, listed_in
 -- ---- other entries in the index, or other takers
 
 pub sound_index : (at : ℕ → Option Node) (q : Events) (slots size : ℕ) (m m' : Marks) → m' ≡ record m { index = m'.index } → AreNumbered at m' → IsSound at q slots size m → IsSound at q slots size m'
-sound_index at q slots size m m' same k s = subst (λ (x : Marks). IsSound at q slots size x) (sym same) (record { store_is = s.store_is; numbered = subst (λ (x : Marks). AreNumbered at x) same k; events = s.events; paired = s.paired; single = s.single; tasks_paired = s.tasks_paired })
+sound_index at q slots size m m' same k s = subst (λ (x : Marks). IsSound at q slots size x) (sym same) (record { store_is = s.store_is; numbered = subst (λ (x : Marks). AreNumbered at x) same k; events = s.events; paired = s.paired; single = s.single; tasks_paired = s.tasks_paired; hubs_paired = s.hubs_paired })
 
 pub seen_index : (at : ℕ → Option Node) (q : Events) (sp : List Spot → Type 0) (m m' : Marks) (w : World) → m' ≡ record m { index = m'.index } → IsSeen at q sp m w → IsSeen at q sp m' w
-seen_index at q sp m m' w same st = subst (λ (x : Marks). IsSeen at q sp x w) (sym same) (record { nodes = st.nodes; queue = st.queue; spots = st.spots; next_is = st.next_is; slots_are = st.slots_are; firing_is = st.firing_is; awaited_is = st.awaited_is; tasks = st.tasks })
+seen_index at q sp m m' w same st = subst (λ (x : Marks). IsSeen at q sp x w) (sym same) (record { nodes = st.nodes; queue = st.queue; spots = st.spots; next_is = st.next_is; slots_are = st.slots_are; firing_is = st.firing_is; awaited_is = st.awaited_is; tasks = st.tasks; hubs = st.hubs })
 
 pub added_index : (at new : ℕ → Option Node) (bare bare' : ℕ → Bool) (m m' m'' : Marks) (before : Option ℕ) (slot : ℕ) (form : FormCase) → m' ≡ record m { index = m'.index } → IsAdded at new bare bare' m' m'' before slot form → IsAdded at new bare bare' m m'' before slot form
 added_index at new bare bare' m m' m'' before slot form same a =
@@ -47,10 +47,11 @@ sound_owners at q slots size m m' same s =
       paired = s.paired;
       single = s.single;
       tasks_paired = s.tasks_paired;
+      hubs_paired = s.hubs_paired;
     })
 
 pub seen_owners : (at : ℕ → Option Node) (q : Events) (sp : List Spot → Type 0) (m m' : Marks) (w : World) → m' ≡ record m { owners = m'.owners } → IsSeen at q sp m w → IsSeen at q sp m' w
-seen_owners at q sp m m' w same st = subst (λ (x : Marks). IsSeen at q sp x w) (sym same) (record { nodes = st.nodes; queue = st.queue; spots = st.spots; next_is = st.next_is; slots_are = st.slots_are; firing_is = st.firing_is; awaited_is = st.awaited_is; tasks = st.tasks })
+seen_owners at q sp m m' w same st = subst (λ (x : Marks). IsSeen at q sp x w) (sym same) (record { nodes = st.nodes; queue = st.queue; spots = st.spots; next_is = st.next_is; slots_are = st.slots_are; firing_is = st.firing_is; awaited_is = st.awaited_is; tasks = st.tasks; hubs = st.hubs })
 
 -- ---- the node before which one is built
 

@@ -12,6 +12,7 @@ use Rattle.kj_base.specs.declared.nodes.Form.{Form as FormCase}
 use Rattle.kj_model.specs.Nodes.{Form, Entry as Seen, form_at}
 use Rattle.kj_model.specs.World.{World}
 use Rattle.kj_model.specs.Fire.{branches_of}
+use Rattle.kj_model.specs.Calls.{hubs_of}
 use Rattle.kj_model.specs.Places.{placed, placed_over, placed_if, built}
 use Rattle.kj_model.proofs.Placed.{placed_spots}
 use Rattle.promise_nodes.specs.Shown.{shown, link_number}
@@ -22,7 +23,7 @@ use Rattle.promise_graph.specs.declared.fields.Rings.{Rings}
 use Rattle.promise_graph.specs.Slots.{IsRising, slot_in, number_of, number_at, IsAbsent}
 use Rattle.promise_graph.specs.Rings.{next_at, prev_at}
 use Rattle.promise_graph.specs.Kept.{AreNumbered, IsArmable, hub_of}
-use Rattle.promise_graph.specs.Tasks.{HasTasks}
+use Rattle.promise_graph.specs.Members.{HasMembers}
 use Rattle.promise_graph.specs.Standing.{name_or, name_at, event_name, events_as, HasNodes, HasRing, HasSpots, IsSeen}
 use Rattle.promise_graph.specs.Rows.{name_before}
 use Rattle.promise_graph.proofs.Lists.{some_same, none_some, equal_yes, equal_not, is_some_of, all_append, map_append}
@@ -275,8 +276,8 @@ module _ (at new : ℕ → Option Node) (m : Marks) (slot : ℕ) (form : FormCas
 
   pub seen_built : (m' : Marks) (q : Events) (sp sp' : List Spot → Type 0) (before : Option ℕ) (w : World) → m'.rings ≡ m.rings → m'.next ≡ m.next + 1 → m'.slots ≡ m.slots → link_number m'.firing ≡ link_number m.firing → link_number m'.awaited ≡ link_number m.awaited
       → next_at m.rings slot ≡ slot → prev_at m.rings slot ≡ slot → ((s : ℕ) → before ≡ Some s → IsSome (number_at at s)) → AllByRecursion (IsArmable at) q.list
-      → ((xs : List Spot) (key : ℕ) → sp xs → KeysBelow key xs → sp' (xs ++ spot_placed slot key before xs ∷ [])) → HasTasks m'.numbers.items m'.tasks m'.slots m'.next w.detached → IsSeen at q sp m w → IsSeen new q sp' m' (built (name_before at before) (shown [] form) w)
-  seen_built m' q sp sp' before w rings_are next_is slots_are firing_is awaited_is alone_next alone_prev live armed spots tasks st =
+      → ((xs : List Spot) (key : ℕ) → sp xs → KeysBelow key xs → sp' (xs ++ spot_placed slot key before xs ∷ [])) → HasMembers m'.numbers.items m'.tasks m'.slots m'.next w.detached → HasMembers m'.numbers.items m'.hubs m'.slots m'.next (hubs_of (w.nodes ++ record { number = m.next; form = shown [] form } ∷ [])) → IsSeen at q sp m w → IsSeen new q sp' m' (built (name_before at before) (shown [] form) w)
+  seen_built m' q sp sp' before w rings_are next_is slots_are firing_is awaited_is alone_next alone_prev live armed spots tasks hubs st =
       let f = shown [] form in
       let v = placed (name_before at before) w in
       let same = placed_same (name_before at before) w in
@@ -307,7 +308,8 @@ module _ (at new : ℕ → Option Node) (m : Marks) (slot : ℕ) (form : FormCas
         slots_are = ap (λ (u : World). u.limits.slots) same ∙ st.slots_are ∙ sym slots_are;
         firing_is = ap (λ (u : World). u.firing) same ∙ st.firing_is ∙ sym firing_is;
         awaited_is = ap (λ (u : World). awaited_root u.awaited) same ∙ st.awaited_is ∙ sym awaited_is;
-        tasks = subst (λ (l : List ℕ). HasTasks m'.numbers.items m'.tasks m'.slots m'.next l) (ap (λ (u : World). u.detached) (sym same)) tasks;
+        tasks = subst (λ (l : List ℕ). HasMembers m'.numbers.items m'.tasks m'.slots m'.next l) (ap (λ (u : World). u.detached) (sym same)) tasks;
+        hubs = subst (λ (es : List Seen). HasMembers m'.numbers.items m'.hubs m'.slots m'.next (hubs_of es)) (sym nodes) hubs;
       }
 
 live_case : (o : Option Node) → IsSome o → IsSome (number_of o)

@@ -3,7 +3,7 @@ use Rattle.std.proofs.Common.{◌≡◌, ◌≢◌, ℕ, List, [], ◌∷◌, �
 use Rattle.std.specs.Prelude.{◌==◌}
 use Rattle.std.proofs.lemmas.Bool.Decides.{nat_tests}
 use Rattle.kj_model.specs.Nodes.{Form, Entry as Seen, form_at, without, with_form, formed_if}
-use Rattle.promise_graph.specs.Standing.{AreOnce}
+use Rattle.promise_nodes.specs.Once.{AreOnce}
 use Rattle.promise_graph.proofs.Lists.{none_some, equal_yes, equal_not}
 
 -- ---- a node goes

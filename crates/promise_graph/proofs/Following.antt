@@ -14,6 +14,7 @@ use Rattle.kj_base.specs.declared.nodes.Form.TheVariants.{Ready as ReadyCase, La
 use Rattle.kj_model.specs.Nodes.{Entry as Seen, form_at}
 use Rattle.kj_model.specs.World.{World}
 use Rattle.kj_model.specs.Fire.{branches_of}
+use Rattle.kj_model.specs.Calls.{hubs_of}
 use Rattle.promise_nodes.specs.Shown.{shown}
 use Rattle.promise_nodes.specs.Kept.{IsPlain, is_hub}
 use Rattle.promise_graph.specs.declared.fields.Marks.{Marks}
@@ -128,5 +129,6 @@ stands_for at q sp m w k st = record {
   stands = st;
   plain = plain_follows at m k w.nodes st.seen.nodes;
   tasks = λ n i. of_all (λ j. j < m.next) n w.detached st.seen.tasks.below i;
+  hubs = λ n i. of_all (λ j. j < m.next) n (hubs_of w.nodes) st.seen.hubs.below i;
   few = few_follows at m k w.nodes st.seen.nodes;
 }

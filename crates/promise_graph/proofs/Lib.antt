@@ -18,7 +18,7 @@ pub mod Adding
 pub mod Leaving
 pub mod Branches
 pub mod Joining
-pub mod Tasks
+pub mod Members
 pub mod Ruled
 pub mod Replaced
 pub mod Following

@@ -105,13 +105,13 @@ no_head f q s = no_first f q.list s
 
 pub kept_queue : (at : ℕ → Option Node) (bare : ℕ → Bool) (q r : Events) (slots size size' : ℕ) (m : Marks) → IsKept at bare q slots size m → size' ≡ size → AllByRecursion (IsArmable at) r.list → IsQueue r → IsKept at bare r slots size' m
 kept_queue at bare q r slots size size' m k same armed queue = record {
-  sound = record { store_is = k.sound.store_is; numbered = k.sound.numbered; events = record { size_is = same ∙ k.sound.events.size_is; armed = armed; queue = queue }; paired = k.sound.paired; single = k.sound.single; tasks_paired = k.sound.tasks_paired };
+  sound = record { store_is = k.sound.store_is; numbered = k.sound.numbered; events = record { size_is = same ∙ k.sound.events.size_is; armed = armed; queue = queue }; paired = k.sound.paired; single = k.sound.single; tasks_paired = k.sound.tasks_paired; hubs_paired = k.sound.hubs_paired };
   owned = k.owned;
 }
 
 pub stands_queue : (at : ℕ → Option Node) (q r e : Events) (sp : List Spot → Type 0) (m : Marks) (w : World) → e ≡ events_as (event_name at m.next) r → Stands at q sp m w → Stands at r sp m (with_queue e w)
 stands_queue at q r e sp m w same st = record {
-  seen = record { nodes = st.seen.nodes; queue = same; spots = st.seen.spots; next_is = st.seen.next_is; slots_are = st.seen.slots_are; firing_is = st.seen.firing_is; awaited_is = st.seen.awaited_is; tasks = st.seen.tasks };
+  seen = record { nodes = st.seen.nodes; queue = same; spots = st.seen.spots; next_is = st.seen.next_is; slots_are = st.seen.slots_are; firing_is = st.seen.firing_is; awaited_is = st.seen.awaited_is; tasks = st.seen.tasks; hubs = st.seen.hubs };
   owned = st.owned;
 }
 

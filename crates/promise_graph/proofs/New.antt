@@ -85,6 +85,19 @@ module _ (at : ℕ → Option Node) (none : (s : ℕ) → at s ≡ None) (m : Ma
       place_of : (s : ℕ) → s < m.slots + 1 → s < slots + 1
       place_of s h = omega (arith, h, new.slots_are)
 
+  hubs_paired : ArePaired m.hubs (m.slots + 1)
+  hubs_paired = record {
+    all_next = new.nexts_hubs.all ∙ ap (λ (k : ℕ). k + 1) (sym new.slots_are);
+    all_prev = new.prevs_hubs.all ∙ ap (λ (k : ℕ). k + 1) (sym new.slots_are);
+    next_in = λ s h. (let e = new.nexts_hubs.each s (place_of s h) in omega (arith, e, h));
+    prev_in = λ s h. (let e = new.prevs_hubs.each s (place_of s h) in omega (arith, e, h));
+    back = λ s h. ap (prev_at m.hubs) (new.nexts_hubs.each s (place_of s h)) ∙ new.prevs_hubs.each s (place_of s h);
+    forth = λ s h. ap (next_at m.hubs) (new.prevs_hubs.each s (place_of s h)) ∙ new.nexts_hubs.each s (place_of s h);
+  }
+    where
+      place_of : (s : ℕ) → s < m.slots + 1 → s < slots + 1
+      place_of s h = omega (arith, h, new.slots_are)
+
   pub new_kept : (bare : ℕ → Bool) (q : Events) (store_slots size : ℕ) → slots ≤ 4194304 → store_slots ≡ slots → size ≡ slots + 1 → q ≡ no_events → IsKept at bare q store_slots size m
   new_kept bare q store_slots size few store size_is empty_q = record {
     sound = record {
@@ -110,6 +123,7 @@ module _ (at : ℕ → Option Node) (none : (s : ℕ) → at s ≡ None) (m : Ma
       paired = paired;
       single = λ s h e. new.nexts_are.each s (low_of s h);
       tasks_paired = tasks_paired;
+      hubs_paired = hubs_paired;
     };
     owned = record {
       all_owners = ap (λ (l : List Link). length l) new.owners_are ∙ length-replicate slots nobody ∙ sym new.slots_are;
@@ -133,8 +147,16 @@ module _ (at : ℕ → Option Node) (none : (s : ℕ) → at s ≡ None) (m : Ma
       firing_is = ap link_number (sym new.firing_is);
       awaited_is = ap link_number (sym new.awaited_is);
       tasks = record {
-        tasks = [];
+        members = [];
         ring = (new.nexts_tasks.each m.slots (omega (arith, new.slots_are)), new.prevs_tasks.each m.slots (omega (arith, new.slots_are)));
+        apart = tt;
+        each = tt;
+        named = refl;
+        below = tt;
+      };
+      hubs = record {
+        members = [];
+        ring = (new.nexts_hubs.each m.slots (omega (arith, new.slots_are)), new.prevs_hubs.each m.slots (omega (arith, new.slots_are)));
         apart = tt;
         each = tt;
         named = refl;

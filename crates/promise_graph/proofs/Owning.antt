@@ -7,10 +7,11 @@ use Rattle.kj_base.specs.declared.nodes.Node.{Node}
 use Rattle.kj_model.specs.Nodes.{Form, Entry as Seen, form_at, is_in, parts_of, owner_of}
 use Rattle.kj_model.specs.Fire.{branches_of}
 use Rattle.promise_nodes.specs.Shown.{shown}
+use Rattle.promise_nodes.specs.Once.{AreOnce}
 use Rattle.promise_graph.specs.declared.fields.Marks.{Marks}
 use Rattle.promise_graph.specs.Slots.{number_of, number_at, Finds, slot_of}
 use Rattle.promise_graph.specs.Kept.{AreNumbered, taker_at}
-use Rattle.promise_graph.specs.Standing.{AreOnce, HasNodes, AreOwned}
+use Rattle.promise_graph.specs.Standing.{HasNodes, AreOwned}
 use Rattle.promise_graph.proofs.Lists.{some_same, none_some}
 use Rattle.promise_graph.proofs.Numbered.{slot_is}
 use Rattle.promise_graph.proofs.Forms.{parts_any}

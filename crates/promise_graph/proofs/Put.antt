@@ -9,8 +9,10 @@ use Rattle.kj_base.specs.declared.nodes.Node.{Node}
 use Rattle.kj_base.specs.declared.nodes.Form.{Form as FormCase}
 use Rattle.kj_model.specs.Nodes.{Form, Entry as Seen, form_at, with_form, is_in, parts_at, parts_found}
 use Rattle.kj_model.specs.Fire.{branches_of}
+use Rattle.kj_model.specs.Calls.{hubs_of}
 use Rattle.promise_nodes.specs.Shown.{shown}
 use Rattle.promise_nodes.specs.Kept.{is_hub}
+use Rattle.promise_nodes.proofs.Hubs.{hubs_put}
 use Rattle.promise_graph.specs.declared.fields.Marks.{Marks}
 use Rattle.promise_graph.specs.declared.fields.Rings.{Rings}
 use Rattle.promise_graph.specs.Slots.{number_of, number_at}
@@ -20,7 +22,7 @@ use Rattle.promise_graph.proofs.Lists.{some_same, none_some}
 use Rattle.promise_graph.proofs.Numbered.{one_slot}
 use Rattle.promise_graph.proofs.Renamed.{events_same}
 use Rattle.promise_graph.proofs.Entries.{put_other, put_same, put_none, put_once}
-use Rattle.promise_graph.proofs.Forms.{kind_hub, kind_branch, kind_plain, parts_any, branches_shown, branches_hub}
+use Rattle.promise_graph.proofs.Forms.{kind_hub, kind_branch, kind_plain, parts_any, branches_shown, branches_hub, hub_any}
 use Rattle.promise_graph.proofs.Cutting.{named_same}
 
 pub node_of : (o : Option Node) (n : ℕ) → number_of o ≡ Some n → (old : Node) × (o ≡ Some old)
@@ -128,6 +130,10 @@ module _ (at new : ℕ → Option Node) (m : Marks) (slot n : ℕ) (form : FormC
           let same = put_other other.number.0 n f es e in
           subst (λ (o : Option Form). HasRing new m.rings s other.number.0 (branches_of o)) (sym same) (ring_same at new m.rings s other.number.0 (branches_of (form_at other.number.0 es)) number_same hub_same (has.rings s other before t)));
     }
+
+    -- the hubs are the same
+    pub hubs_same : hubs_of (with_form n f es) ≡ hubs_of es
+    hubs_same = hubs_put n f (shown branches old.form) es has.once found (hub_any branches form ∙ sym (kind_hub old.form form kind) ∙ sym (hub_any branches old.form))
 
     -- each part was one before
     part_before : ((j : ℕ) → is_in j (form_parts form) ≡ true → is_in j (parts_at n es) ≡ true) → (j : ℕ) → is_in j (form_parts node.form) ≡ true → is_in j (form_parts old.form) ≡ true

@@ -14,10 +14,11 @@ use Rattle.kj_model.specs.World.{World}
 use Rattle.kj_model.specs.Fire.{branches_of}
 use Rattle.promise_nodes.specs.Shown.{shown, SeesOwner}
 use Rattle.promise_nodes.specs.Kept.{IsLive, RisesIn, is_hub, hub_of as hub_in, put_form, tree_replaced}
+use Rattle.promise_nodes.specs.Once.{AreOnce}
 use Rattle.promise_graph.specs.declared.fields.Marks.{Marks}
 use Rattle.promise_graph.specs.Slots.{number_of, number_at, Finds, slot_of}
 use Rattle.promise_graph.specs.Kept.{AreNumbered, IsKept, taker_at, is_taken, form_parts, is_same_kind}
-use Rattle.promise_graph.specs.Standing.{AreOnce, HasNodes, AreOwned, IsSeen, Stands}
+use Rattle.promise_graph.specs.Standing.{HasNodes, AreOwned, IsSeen, Stands}
 use Rattle.promise_graph.specs.Rows.{IsReplaced}
 use Rattle.promise_graph.proofs.Lists.{some_same, none_some}
 use Rattle.promise_graph.proofs.Numbered.{slot_is}

@@ -138,6 +138,7 @@ pub record IsSound (at : ℕ → Option Node) (q : Events) (store_slots size : �
   pub paired : ArePaired m.rings m.slots
   pub single : (s : ℕ) → s < m.slots → at s ≡ None → next_at m.rings s ≡ s
   pub tasks_paired : ArePaired m.tasks (m.slots + 1)
+  pub hubs_paired : ArePaired m.hubs (m.slots + 1)
 
 -- what each call keeps
 pub record IsKept (at : ℕ → Option Node) (bare : ℕ → Bool) (q : Events) (store_slots size : ℕ) (m : Marks) : Type 0 where

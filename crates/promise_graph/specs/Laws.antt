@@ -14,7 +14,7 @@ use Rattle.promise_graph.specs.Standing.{Stands, StandsFor, stands_named}
 pub names_free : (at : ℕ → Option Node) (q : Events) (sp : List Spot → Type 0) (m : Marks) (w v : World) → SameNodes w v → StandsFor at q sp m w → StandsFor at q sp m v
 names_free at q sp m w v same st =
     let st' = stands_named at q sp m w v same st.stands in
-    subst (λ (u : World). StandsFor at q sp m u) (sym same) (record { stands = subst (λ (u : World). Stands at q sp m u) same st'; plain = st.plain; tasks = st.tasks; few = st.few })
+    subst (λ (u : World). StandsFor at q sp m u) (sym same) (record { stands = subst (λ (u : World). Stands at q sp m u) same st'; plain = st.plain; tasks = st.tasks; hubs = st.hubs; few = st.few })
 
 -- rows may be left out
 pub left_out : (room : List Row → Bool) (m : Marks) → ((front : List Row) (left : Row) (back : List Row) → IsTrue (room (front ++ left ∷ back)) → IsTrue (room (front ++ back)))

@@ -1,7 +1,7 @@
 pub mod Slots
 pub mod Rings
 pub mod Kept
-pub mod Tasks
+pub mod Members
 pub mod Standing
 pub mod New
 pub mod Rows

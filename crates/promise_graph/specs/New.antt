@@ -16,6 +16,8 @@ pub record AreNew (m : Marks) (count : ℕ) : Type 0 where
   pub prevs_are : AreSlots m.rings.prevs.items count
   pub nexts_tasks : AreSlots m.tasks.nexts.items (count + 1)
   pub prevs_tasks : AreSlots m.tasks.prevs.items (count + 1)
+  pub nexts_hubs : AreSlots m.hubs.nexts.items (count + 1)
+  pub prevs_hubs : AreSlots m.hubs.prevs.items (count + 1)
   pub index_is : m.index.items ≡ []
   pub room : 2 * count < vec_capacity m.index
   pub firing_is : m.firing ≡ None

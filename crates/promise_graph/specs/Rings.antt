@@ -1,5 +1,5 @@
 -- Rings through slots.
-use Rattle.std.specs.Prelude.{◌≡◌, ◌≢◌, ◌<◌, ℕ, List, [], ◌∷◌, length, slice_index_or}
+use Rattle.std.specs.Prelude.{◌≡◌, ◌≢◌, ◌<◌, ℕ, List, [], ◌∷◌, Bool, true, false, length, slice_index_or}
 use Rattle.std.specs.List.{AllByRecursion}
 use Rattle.promise_graph.specs.declared.fields.Rings.{Rings}
 
@@ -56,3 +56,14 @@ pub record IsJoined (old new : Rings) (m h : ℕ) : Type 0 where
   pub hub_prev : prev_at new h ≡ m
   pub other_next : (x : ℕ) → x ≢ m → x ≢ prev_at old h → next_at new x ≡ next_at old x
   pub other_prev : (x : ℕ) → x ≢ m → x ≢ h → prev_at new x ≡ prev_at old x
+
+-- this slot left its ring, and is the last before a head now
+pub record IsListed (old new : Rings) (m h : ℕ) : Type 0 where
+  pub between : Rings
+  pub cut : IsCut old between m
+  pub joined : IsJoined between new m h
+
+-- the same, if it is to be listed
+abbrev pub MayBeListed : Bool → Rings → Rings → ℕ → ℕ → Type 0
+MayBeListed true old new m h = IsListed old new m h
+MayBeListed false old new m h = new ≡ old

@@ -1,5 +1,5 @@
 -- The worlds that a graph stands for.
-use Rattle.std.specs.Prelude.{◌≡◌, ◌≢◌, ◌<◌, ◌≤◌, ℕ, zero, suc, ◌+◌, List, [], ◌∷◌, Option, None, Some, true, map, length, unwrap_or, IsSome}
+use Rattle.std.specs.Prelude.{◌≡◌, ◌≢◌, ◌<◌, ◌≤◌, ℕ, zero, suc, ◌+◌, List, [], Option, None, Some, true, map, length, unwrap_or, IsSome}
 use Rattle.std.specs.List.{AllByRecursion}
 use Rattle.std.proofs.Common.{subst, sym}
 use Rattle.kj_base.specs.Queue.{Events}
@@ -9,14 +9,16 @@ use Rattle.kj_base.specs.declared.nodes.Node.{Node}
 use Rattle.kj_model.specs.Nodes.{Entry as Seen, form_at, is_in}
 use Rattle.kj_model.specs.World.{World}
 use Rattle.kj_model.specs.Fire.{branches_of}
+use Rattle.kj_model.specs.Calls.{hubs_of}
 use Rattle.promise_nodes.specs.Shown.{shown, link_number}
+use Rattle.promise_nodes.specs.Once.{AreOnce}
 use Rattle.promise_nodes.specs.Kept.{SameNodes, IsPlain, awaited_root, is_hub}
 use Rattle.promise_graph.specs.declared.fields.Marks.{Marks}
 use Rattle.promise_graph.specs.declared.fields.Rings.{Rings}
 use Rattle.promise_graph.specs.Slots.{number_at, IsAbsent}
 use Rattle.promise_graph.specs.Rings.{next_at, prev_at, IsRing, AreApart}
 use Rattle.promise_graph.specs.Kept.{form_parts, hub_of, taker_at, is_plain, IsArmable}
-use Rattle.promise_graph.specs.Tasks.{HasTasks}
+use Rattle.promise_graph.specs.Members.{HasMembers}
 
 -- ---- numbers in place of slots
 
@@ -44,11 +46,6 @@ EventIs at next n None = IsAbsent at n × (n ≢ 0)
 EventIs at next n (Some event) = (event_name at next event ≡ n) × IsArmable at event
 
 -- ---- the nodes
-
--- no number stands twice
-abbrev pub AreOnce : List Seen → Type 0
-AreOnce [] = Unit {0}
-AreOnce (e ∷ es) = (form_at e.number es ≡ None) × AreOnce es
 
 -- the ring of a hub has these branches
 pub record HasRing (at : ℕ → Option Node) (r : Rings) (hub number : ℕ) (branches : List ℕ) : Type 0 where
@@ -89,7 +86,8 @@ pub record IsSeen (at : ℕ → Option Node) (q : Events) (sp : List Spot → Ty
   pub slots_are : w.limits.slots ≡ m.slots
   pub firing_is : w.firing ≡ link_number m.firing
   pub awaited_is : awaited_root w.awaited ≡ link_number m.awaited
-  pub tasks : HasTasks m.numbers.items m.tasks m.slots m.next w.detached
+  pub tasks : HasMembers m.numbers.items m.tasks m.slots m.next w.detached
+  pub hubs : HasMembers m.numbers.items m.hubs m.slots m.next (hubs_of w.nodes)
 
 -- slots, queue and marks stand for this world, whatever its names are
 pub record Stands (at : ℕ → Option Node) (q : Events) (sp : List Spot → Type 0) (m : Marks) (w : World) : Type 0 where
@@ -101,6 +99,7 @@ pub record StandsFor (at : ℕ → Option Node) (q : Events) (sp : List Spot →
   pub stands : Stands at q sp m w
   pub plain : (n : ℕ) → is_plain at m n ≡ true → IsPlain (form_at n w.nodes)
   pub tasks : (n : ℕ) → is_in n w.detached ≡ true → n < m.next
+  pub hubs : (n : ℕ) → is_in n (hubs_of w.nodes) ≡ true → n < m.next
   pub few : (hub : ℕ) → length (branches_of (form_at hub w.nodes)) ≤ m.slots
 
 -- names don't matter
@@ -115,6 +114,7 @@ stands_named at q sp m w v same st = subst (λ (u : World). Stands at q sp m u) 
     firing_is = st.seen.firing_is;
     awaited_is = st.seen.awaited_is;
     tasks = st.seen.tasks;
+    hubs = st.seen.hubs;
   };
   owned = st.owned;
 })

@@ -18,6 +18,8 @@ use crate::index::{add_entry, compact};
 use crate::making::nobody;
 use crate::owners::{set_taker, take_parts};
 use crate::parts::parts;
+use crate::putting::is_hub;
+use crate::rings::list_if;
 use kj_base::{Form, Link, Node, NodeId, Queue, Slot, Store};
 
 // Room for one more entry: stale ones go where none is left.
@@ -64,6 +66,7 @@ fn place_node<St: Store + Drop, Q: Queue + Drop>(
     ensures rest { (more : List Row) (count : ℕ) → 0 < count → IsTrue (St.room g.old.store (row (slot_number before) count ∷ more)) → IsTrue (St.room g.new.store (rows_after result.0 count more)) }
 {
     let number = g.marks.next;
+    let is_hub = is_hub(&form);
     let slot = g.store.place(
         before,
         Node {
@@ -75,6 +78,8 @@ fn place_node<St: Store + Drop, Q: Queue + Drop>(
     set_taker(&mut g.marks.owners, slot.0, nobody());
     add_entry(&mut g.marks.index, number, slot.0);
     g.marks.next = number + 1;
+    let head = g.marks.slots;
+    list_if(&mut g.marks.hubs, slot.0, head, is_hub);
     slot
 }
 

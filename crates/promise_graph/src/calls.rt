@@ -105,6 +105,10 @@ impl<St: Store + Drop, Q: Queue + Drop> Nodes for Graph<St, Q> {
         own_set::newest_task(&self.fields)
     }
 
+    fn oldest_hub(&self) -> Option<Link> {
+        own_set::oldest_hub(&self.fields)
+    }
+
     fn arm(&mut self, way: Way, node: Link) {
         events::arm(&mut self.fields, way, node);
     }
@@ -136,6 +140,10 @@ impl<St: Store + Drop, Q: Queue + Drop> Nodes for Graph<St, Q> {
     ghost plain_is = { λ g w n st h. st.plain n h };
 
     ghost tasks_built = { λ g w n st h. st.tasks n h };
+
+    ghost once = { λ g w st. st.stands.seen.nodes.once };
+
+    ghost hubs_built = { λ g w n st h. st.hubs n h };
 
     ghost few_branches = { λ g w hub st. st.few hub };
 

@@ -21,6 +21,8 @@ pub struct Marks {
     /// The loop's own set is one ring, in which the place behind the last slot stands before the oldest task and behind
     /// the newest. A slot that is in no ring has itself on both sides.
     pub tasks: Rings,
+    /// The live hubs are one ring, by the same head: the oldest stands behind it.
+    pub hubs: Rings,
     /// By rising number, with room for twice the slots.
     pub index: Vec<Entry>,
     pub firing: Option<Link>,

@@ -18,7 +18,8 @@ pub(crate) fn set_number(numbers: &mut Vec<u64>, slot: u32, n: u64)
     numbers[slot as usize] = n;
 }
 
-// The node in a slot goes, with its event. A hub leaves its branches in a ring without it, a task leaves the loop's own set.
+// The node in a slot goes, with its event. A hub leaves its branches in a ring without it, and the other hubs; a task
+// leaves the loop's own set.
 fn drop_slot<St: Store + Drop, Q: Queue + Drop>(g: &mut Fields<St, Q>, slot: Slot, n: u64)
     requires kept { IsKept (St.node_at g.old.store) (St.is_bare g.old.store) (Q.events g.old.queue) (St.slots g.old.store) (Q.size g.old.queue) g.old.marks }
     requires live { number_at (St.node_at g.old.store) slot.0 ≡ Some n }
@@ -32,6 +33,7 @@ fn drop_slot<St: Store + Drop, Q: Queue + Drop>(g: &mut Fields<St, Q>, slot: Slo
     set_number(&mut g.marks.numbers, slot.0, 0);
     cut(&mut g.marks.rings, slot.0);
     cut(&mut g.marks.tasks, slot.0);
+    cut(&mut g.marks.hubs, slot.0);
 }
 
 // A number that no node has goes: only the wait has an event then.

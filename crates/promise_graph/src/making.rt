@@ -83,19 +83,15 @@ pub(crate) fn new_marks(alloc: Global, count: u32) -> Result<Marks, NoMemory>
         Ok(owners) => owners,
         Err(none) => return Err(none),
     };
-    let branches = match rings(alloc, count) {
-        Ok(branches) => branches,
-        Err(none) => return Err(none),
-    };
-    let tasks = match rings(alloc, count + 1) {
-        Ok(tasks) => tasks,
-        Err(none) => return Err(none),
-    };
+    let branches = rings(alloc, count)?;
+    let tasks = rings(alloc, count + 1)?;
+    let hubs = rings(alloc, count + 1)?;
     Ok(Marks {
         numbers,
         owners,
         rings: branches,
         tasks,
+        hubs,
         index,
         firing: None,
         awaited: None,

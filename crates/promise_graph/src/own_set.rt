@@ -1,6 +1,8 @@
-//! The loop's own set: tasks that no set holds.
+//! The loop's own set, tasks that no set holds; and the live hubs.
 ghost use Rattle.std.specs.Prelude.{◌≡◌, ◌<◌, ◌≤◌, ◌+◌, ℕ, Option, Some, None, Bool, false, nat_lt, slice_index_or, if◌then◌else◌};
+ghost use Rattle.kj_base.specs.Queue.{first_of};
 ghost use Rattle.kj_model.specs.World.{World};
+ghost use Rattle.kj_model.specs.Calls.{hubs_of};
 ghost use Rattle.kj_model.specs.Nodes.{is_in};
 ghost use Rattle.kj_model.specs.Effects.{with_detached};
 ghost use Rattle.promise_nodes.specs.Shown.{link_number};
@@ -11,7 +13,7 @@ ghost use Rattle.promise_graph.specs.Standing.{Stands};
 
 use crate::fields::Fields;
 use crate::finding::find;
-use crate::rings::{cut, in_front, join};
+use crate::rings::{behind, cut, in_front, join};
 use kj_base::{Link, NodeId, Queue, Slot, Store};
 
 // The node in a slot is the newest task.
@@ -62,8 +64,8 @@ pub(crate) fn delist<St: Store + Drop, Q: Queue + Drop>(g: &mut Fields<St, Q>, t
     }
 }
 
-// The task in a slot; none in the place behind the last slot.
-fn task_in<St: Store + Drop, Q: Queue + Drop>(g: &Fields<St, Q>, slot: u32) -> Option<Link>
+// The node in a slot; none in the place behind the last slot, where the rings begin.
+fn member_in<St: Store + Drop, Q: Queue + Drop>(g: &Fields<St, Q>, slot: u32) -> Option<Link>
     requires { IsKept (St.node_at g.now.store) (St.is_bare g.now.store) (Q.events g.now.queue) (St.slots g.now.store) (Q.size g.now.queue) g.now.marks }
     ensures { link_number result ≡ (if nat_lt slot g.now.marks.slots then Some (slice_index_or g.now.marks.numbers.items slot 0) else None) }
 {
@@ -76,10 +78,18 @@ fn task_in<St: Store + Drop, Q: Queue + Drop>(g: &Fields<St, Q>, slot: u32) -> O
     None
 }
 
+// The oldest live hub.
+pub(crate) fn oldest_hub<St: Store + Drop, Q: Queue + Drop>(g: &Fields<St, Q>) -> Option<Link>
+    requires { IsKept (St.node_at g.now.store) (St.is_bare g.now.store) (Q.events g.now.queue) (St.slots g.now.store) (Q.size g.now.queue) g.now.marks }
+    ensures { (w : World) → Stands (St.node_at g.now.store) (Q.events g.now.queue) (St.stands g.now.store) g.now.marks w → link_number result ≡ first_of (hubs_of w.nodes) }
+{
+    member_in(g, behind(&g.marks.hubs, g.marks.slots))
+}
+
 // The newest live task.
 pub(crate) fn newest_task<St: Store + Drop, Q: Queue + Drop>(g: &Fields<St, Q>) -> Option<Link>
     requires { IsKept (St.node_at g.now.store) (St.is_bare g.now.store) (Q.events g.now.queue) (St.slots g.now.store) (Q.size g.now.queue) g.now.marks }
     ensures { (w : World) → Stands (St.node_at g.now.store) (Q.events g.now.queue) (St.stands g.now.store) g.now.marks w → link_number result ≡ newest_task w }
 {
-    task_in(g, in_front(&g.marks.tasks, g.marks.slots))
+    member_in(g, in_front(&g.marks.tasks, g.marks.slots))
 }

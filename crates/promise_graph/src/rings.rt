@@ -1,6 +1,6 @@
 //! Rings through slots.
 ghost use Rattle.std.specs.Prelude.{◌≡◌, ◌≢◌, ◌<◌, ◌≤◌, ◌+◌, ℕ, length};
-ghost use Rattle.promise_graph.specs.Rings.{ArePaired, IsCut, IsJoined, next_at, prev_at};
+ghost use Rattle.promise_graph.specs.Rings.{ArePaired, IsCut, IsJoined, MayBeListed, next_at, prev_at};
 
 use crate::fields::Rings;
 
@@ -32,6 +32,18 @@ pub(crate) fn join(rings: &mut Rings, slot: u32, hub: u32)
     rings.prevs[slot as usize] = last;
     rings.nexts[slot as usize] = hub;
     rings.prevs[hub as usize] = slot;
+}
+
+// A slot becomes the last before a head, if it is to be listed.
+pub(crate) fn list_if(rings: &mut Rings, slot: u32, head: u32, is_listed: bool)
+    requires paired { ArePaired rings.old (head + 1) }
+    requires within { slot < head }
+    ensures { MayBeListed is_listed rings.old rings.new slot head }
+{
+    if is_listed {
+        cut(rings, slot);
+        join(rings, slot, head);
+    }
 }
 
 // The slot before this one.

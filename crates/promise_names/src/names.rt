@@ -6,7 +6,7 @@ ghost use Rattle.kj_model.specs.Changes.{named, unnamed};
 ghost use Rattle.kj_model.specs.Fire.{group_of, without_left_over};
 ghost use Rattle.promise_nodes.specs.Shown.{link_number};
 ghost use Rattle.promise_nodes.specs.Kept.{SameNames};
-ghost use Rattle.promise_names.specs.Once.{AreOnce};
+ghost use Rattle.promise_names.specs.Once.{AreOnce, AreRising};
 ghost use Rattle.promise_names.specs.Held.{held_shown, SeesHeld, IsListless, IsLoopsOwn, HasRoot, root_of, name_number, awaited_name, first_name, root_renamed, roots_replaced, with_left_over, with_lost, stopped_world, left_world, AreApart, HasNoneListed};
 ghost use Rattle.promise_names.specs.declared.names.Held.{Held};
 
@@ -90,9 +90,9 @@ pub trait Names {
         ensures limit { limit self.new ≡ limit self.old }
         ensures over { over self.new ≡ over self.old };
 
-    /// A name goes.
+    /// A name goes, with its tasks or Wraps where it has any.
     fn remove(&mut self, name: Name)
-        ensures stands { (w : World) → stands self.old w → IsListless (held_at name.0 w.names) → stands self.new (unnamed name.0 w) }
+        ensures stands { (w : World) → stands self.old w → stands self.new (unnamed name.0 w) }
         ensures root { HasRoot (roots self.old) (roots self.new) name.0 None }
         ensures gone { IsSome (roots self.old name.0) → count self.new + 1 ≡ count self.old }
         ensures few { count self.new ≤ count self.old }
@@ -175,6 +175,9 @@ pub trait Names {
 
     /// The trees that are left over.
     ghost over_is: { (names : Self) (w : World) → stands names w → w.left_over ≡ over names };
+
+    /// Names stand by rising number.
+    ghost rising: { (names : Self) (w : World) → stands names w → AreRising w.names };
 
     /// No name stands twice.
     ghost once: { (names : Self) (w : World) → stands names w → AreOnce w.names };

@@ -9,8 +9,9 @@ ghost use Rattle.kj_model.specs.Fire.{branches_of};
 ghost use Rattle.kj_model.specs.Free.{without_branch};
 ghost use Rattle.kj_model.specs.Changes.{gone_world, arm_listener};
 ghost use Rattle.kj_model.specs.Effects.{with_branch_in, with_detached, disarmed_node};
-ghost use Rattle.kj_model.specs.Calls.{rewound_world, taken_world};
+ghost use Rattle.kj_model.specs.Calls.{rewound_world, taken_world, hubs_of};
 ghost use Rattle.promise_nodes.specs.Shown.{shown, link_number, Sees, SeesOwner, way_of};
+ghost use Rattle.promise_nodes.specs.Once.{AreOnce};
 ghost use Rattle.promise_nodes.specs.Kept.{SameNodes, IsLive, newest_task, without_detached, IsEvent, IsBranch, IsPart, IsReplaceable, KeepsKind, is_unreferenced, awaited_root, rows_left, OnlyFalls, OnlyRises, RisesIn, IsPlain, ShowsPlain, AreRoots, AreBuilt, AddsNone, AreRowsBuilt, put_form, rows_seen, tree_replaced};
 
 use kj_base::{Form, Link};
@@ -207,6 +208,10 @@ pub trait Nodes {
     fn newest_task(&self) -> Option<Link>
         ensures { (w : World) → stands self.now w → link_number result ≡ newest_task w };
 
+    /// The oldest live hub.
+    fn oldest_hub(&self) -> Option<Link>
+        ensures { (w : World) → stands self.now w → link_number result ≡ first_of (hubs_of w.nodes) };
+
     /// The event of a live node, or of the wait, is armed.
     fn arm(&mut self, way: Way, node: Link)
         ensures stands { (w : World) → stands self.old w → IsEvent w node.number.0 → stands self.new (arm_listener (way_of way) (Some node.number.0) w) }
@@ -270,6 +275,12 @@ pub trait Nodes {
 
     /// The tasks of the loop's own set were built.
     ghost tasks_built: { (nodes : Self) (w : World) (n : ℕ) → stands nodes w → is_in n w.detached ≡ true → n < next nodes };
+
+    /// No node stands twice.
+    ghost once: { (nodes : Self) (w : World) → stands nodes w → AreOnce w.nodes };
+
+    /// The hubs were built.
+    ghost hubs_built: { (nodes : Self) (w : World) (n : ℕ) → stands nodes w → is_in n (hubs_of w.nodes) ≡ true → n < next nodes };
 
     /// A hub has no more branches than there are slots.
     ghost few_branches: { (nodes : Self) (w : World) (hub : ℕ) → stands nodes w → length (branches_of (form_at hub w.nodes)) ≤ slots nodes };

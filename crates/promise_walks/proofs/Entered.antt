@@ -85,7 +85,7 @@ unless_counts : (g : Guard) (free : ℕ → State → State) (hub : ℕ) (kept :
 unless_counts g free hub true s = refl
 unless_counts g free hub false s = refl
 
-unreferenced_counts : (g : Guard) (free : ℕ → State → State) (hub : ℕ) (o : Option Form) (s : State) → free_unreferenced g free hub o s ≡ each_freed free (run_from (falls_count (is_unreferenced o) (is_guarded g hub s.world)) hub) s
+pub unreferenced_counts : (g : Guard) (free : ℕ → State → State) (hub : ℕ) (o : Option Form) (s : State) → free_unreferenced g free hub o s ≡ each_freed free (run_from (falls_count (is_unreferenced o) (is_guarded g hub s.world)) hub) s
 unreferenced_counts g free hub None s = refl
 unreferenced_counts g free hub (Some (Ready outcome)) s = refl
 unreferenced_counts g free hub (Some Later) s = refl

@@ -4,7 +4,7 @@ ghost use Rattle.kj_base.specs.Record.{Tells, Free};
 ghost use Rattle.kj_model.specs.World.{World};
 ghost use Rattle.kj_model.specs.Nodes.{form_at};
 ghost use Rattle.kj_model.specs.Changes.{gone_world};
-ghost use Rattle.kj_model.specs.Free.{free_to, is_guarded};
+ghost use Rattle.kj_model.specs.Free.{free_to, is_guarded, reference_gone};
 ghost use Rattle.kj_model.specs.Value.{freed};
 ghost use Rattle.promise_nodes.specs.Kept.{OnlyFalls, OnlyRises};
 ghost use Rattle.promise_walks.specs.Shapes.{SeesShape};
@@ -29,7 +29,7 @@ pub struct Frame {
     pub leaving: Leaving,
 }
 
-// How many hubs go with a branch: one or none.
+// How many hubs go for want of references: one or none.
 fn count_falling<N: Nodes>(
     nodes: &N,
     search: &mut Vec<Parts>,
@@ -253,4 +253,38 @@ pub fn free_part<N: Nodes, M: Names, S: Steps>(
 {
     let guard = Guard::Holding(nodes.firing());
     free_tree(nodes, names, stack, search, guard, root, steps);
+}
+
+/// A hub goes with its tree where it has neither name nor branch, but for the guard.
+pub fn free_unreferenced<N: Nodes, M: Names, S: Steps>(
+    nodes: &mut N,
+    names: &mut M,
+    stack: &mut Vec<Frame>,
+    search: &mut Vec<Parts>,
+    guard: Guard,
+    hub: Link,
+    steps: &mut S,
+)
+    requires stack_room { N.slots nodes.old + 1 ≤ vec_capacity stack.old }
+    requires room { N.slots nodes.old + 1 ≤ vec_capacity search.old }
+    ensures does { Does (Both (N.stands nodes.old) (M.stands names.old)) (Both (N.stands nodes.new) (M.stands names.new)) (reference_gone (guard_of guard) (free_to (guard_of guard) (N.slots nodes.old + 1)) hub.number.0) (λ s. s) (S.told steps.old) (S.told steps.new) }
+    ensures lacks { S.lacks steps.new ≡ S.lacks steps.old }
+    ensures taken { OnlyFalls (N.is_taken nodes.old) (N.is_taken nodes.new) }
+    ensures listed { OnlyFalls (N.is_listed nodes.old) (N.is_listed nodes.new) }
+    ensures plain { OnlyRises (N.is_plain nodes.old) (N.is_plain nodes.new) }
+    ensures next { N.next nodes.new ≡ N.next nodes.old }
+    ensures slots { N.slots nodes.new ≡ N.slots nodes.old }
+    ensures roots { (name : ℕ) → M.roots names.new name ≡ M.roots names.old name }
+    ensures count { M.count names.new ≡ M.count names.old }
+    ensures limit { M.limit names.new ≡ M.limit names.old }
+    ensures over { M.over names.new ≡ M.over names.old }
+    ensures stack_room { vec_capacity stack.old ≤ vec_capacity stack.new }
+    ensures room { vec_capacity search.old ≤ vec_capacity search.new }
+{
+    let is_last = nodes.is_unreferenced(hub);
+    let count = count_falling(nodes, search, guard, hub, is_last);
+    if count == 0 {
+        return;
+    }
+    free_tree(nodes, names, stack, search, guard, hub, steps);
 }

@@ -16,7 +16,7 @@ mod shape;
 mod sums;
 
 pub use evaluating::evaluate;
-pub use freeing::{Frame, free_part, free_tree};
+pub use freeing::{Frame, free_part, free_tree, free_unreferenced};
 pub use guard::Guard;
 pub use holding::holds;
 pub use land::{Given, Land, put_bare};

@@ -5,7 +5,6 @@ use Rattle.kj_model.specs.Changes.{unnamed}
 use Rattle.kj_model.specs.Effects.{node_of, cell_dropped}
 use Rattle.kj_model.specs.Listening.{settled}
 use Rattle.kj_model.specs.Outcomes.{fulfiller_dropped}
-use Rattle.promise_names.specs.Held.{IsListless}
 use Rattle.promise_apply.proofs.Same.{settled_names, unnamed_nodes}
 use Rattle.promise_apply.proofs.cells.drop_cell.Goals as goal
 
@@ -15,10 +14,9 @@ returns-clause-stands g c w both held =
     let n = c.args.cell.number.0 in
     let v = unnamed name w in
     let o = c.dropped.result in
-    let listless = subst IsListless (sym held) tt in
     let nodes = g.met.N.Nodes.names_free c.args.nodes.now w v (unnamed_nodes name w) both.0 in
     let settles = c.settle.ensures.stands v nodes in
-    let names = g.met.M.Names.nodes_free c.remove.new.self v (settled DepthFirst n o v) (settled_names DepthFirst n o v) (c.remove.ensures.stands w both.1 listless) in
+    let names = g.met.M.Names.nodes_free c.remove.new.self v (settled DepthFirst n o v) (settled_names DepthFirst n o v) (c.remove.ensures.stands w both.1) in
     let same : settled DepthFirst n o v ≡ cell_dropped name w =
     ap (λ (x : Outcome). settled DepthFirst n x v) c.dropped.ensures
     ∙ ap (λ (m : ℕ). settled DepthFirst m fulfiller_dropped v) (sym (ap node_of held)) in

@@ -1,14 +1,18 @@
-use Rattle.std.proofs.Common.{◌≡◌, ◌∙◌, sym, ap, ◌<◌, arith, length, subst, List, refl, inl, inr}
+use Rattle.std.proofs.Common.{◌≡◌, ◌∙◌, sym, ap, ℕ, ◌+◌, ◌<◌, arith, length, subst, List, [], ◌∷◌, ◌++◌, Bool, cond, refl, inl, inr}
 use Rattle.std.specs.Prelude.{slice_index_or}
 use Rattle.std.proofs.lemmas.Bool.{cases_eq}
 use Rattle.std.proofs.lemmas.List.{length-set, get_or-set_same, get_or-set_other}
 use Rattle.kj_base.specs.declared.nodes.Link.{Link}
 use Rattle.kj_base.specs.Store.{slot_number, IsBareOrNone}
+use Rattle.kj_model.specs.Calls.{hubs_of}
+use Rattle.promise_nodes.specs.Shown.{shown}
+use Rattle.promise_nodes.proofs.Hubs.{hubs_more}
+use Rattle.promise_graph.specs.Members.{HasMembers}
 use Rattle.promise_graph.specs.Rings.{next_at, prev_at}
 use Rattle.promise_graph.specs.Kept.{nobody}
 use Rattle.promise_graph.proofs.Built.{built_low, built_each, built_given, built_indexed, built_armed, index_rising, index_below, index_above, seen_built, number_live}
 use Rattle.promise_graph.specs.Slots.{number_of}
-use Rattle.promise_graph.proofs.Tasks.{tasks_built}
+use Rattle.promise_graph.proofs.Members.{members_built, members_more, paired_listed, below_out}
 use Rattle.promise_graph.proofs.building.place_node.Goals as goal
 
 pub returns-clause-sound : goal.returns-clause-sound
@@ -50,6 +54,7 @@ returns-clause-sound g c =
         | inr d ↦ sound.single s h (sym (put.nodes s d) ∙ e)
       ];
       tasks_paired = sound.tasks_paired;
+      hubs_paired = paired_listed c.is_hub-is_hub.result m.hubs c.list_if.new.rings slot m.slots (m.slots + 1) c.list_if.ensures sound.hubs_paired;
     }
 
 pub returns-clause-seen : goal.returns-clause-seen
@@ -63,8 +68,12 @@ returns-clause-seen g c w st =
     let put = c.place-slot.ensures in
     let within : slot < m.slots = omega (arith, put.below, put.slots, sound.store_is) in
     let alone : next_at m.rings slot ≡ slot = sound.single slot within put.was_free in
+    let before = members_built at new m _ slot k (returns-clause-sound g c).numbered (ap number_of put.was_free) (ap number_of put.placed) (λ s d. ap number_of (put.nodes s d)) in
     seen_built at new m slot c.args.form k put.was_free put.placed put.nodes _ _ _ _ (slot_number c.args.before) w refl refl refl refl refl alone (ap (prev_at m.rings) (sym alone) ∙ sound.paired.back slot within)
-    (λ s e. number_live at s (g.met.St.Store.bare_live c.args.g.now.store s (subst (IsBareOrNone (g.St.Store.is_bare c.args.g.now.store)) e c.requires.bare))) sound.events.armed put.spots (tasks_built at new m _ slot k (returns-clause-sound g c).numbered (ap number_of put.was_free) (ap number_of put.placed) (λ s d. ap number_of (put.nodes s d)) w.detached st.tasks) st
+    (λ s e. number_live at s (g.met.St.Store.bare_live c.args.g.now.store s (subst (IsBareOrNone (g.St.Store.is_bare c.args.g.now.store)) e c.requires.bare))) sound.events.armed put.spots (before m.tasks w.detached st.tasks)
+    (subst (λ (l : List ℕ). HasMembers c.set_number.new.numbers.items c.list_if.new.rings m.slots (m.next + 1) l) (sym (hubs_more (record { number = m.next; form = shown [] c.args.form }) w.nodes))
+    (subst (λ (b : Bool). HasMembers c.set_number.new.numbers.items c.list_if.new.rings m.slots (m.next + 1) (hubs_of w.nodes ++ cond b (m.next ∷ []) [])) c.is_hub-is_hub.ensures
+    (members_more new _ slot m.next (returns-clause-sound g c).numbered (ap number_of put.placed) c.is_hub-is_hub.result m.hubs c.list_if.new.rings (hubs_of w.nodes) c.list_if.ensures sound.hubs_paired (below_out m.next (hubs_of w.nodes) st.hubs.below) (before m.hubs (hubs_of w.nodes) st.hubs)))) st
 
 pub returns-clause-added : goal.returns-clause-added
 returns-clause-added g c =

@@ -8,12 +8,16 @@ use Rattle.kj_base.specs.declared.nodes.Node.{Node}
 use Rattle.kj_model.specs.Nodes.{Form, Entry as Seen, form_at, without}
 use Rattle.kj_model.specs.Fire.{branches_of}
 use Rattle.kj_model.specs.World.{World}
+use Rattle.kj_model.specs.Calls.{hubs_of}
 use Rattle.kj_model.specs.Changes.{gone_world}
 use Rattle.promise_nodes.specs.Shown.{shown}
 use Rattle.promise_graph.specs.declared.fields.Marks.{Marks}
 use Rattle.promise_graph.specs.declared.fields.Rings.{Rings}
+use Rattle.promise_nodes.proofs.Hubs.{hubs_without}
+use Rattle.promise_graph.specs.Members.{HasMembers}
+use Rattle.promise_graph.proofs.Members.{members_without}
 use Rattle.promise_graph.specs.Slots.{number_of, IsAbsent}
-use Rattle.promise_graph.specs.Kept.{IsArmable}
+use Rattle.promise_graph.specs.Kept.{IsArmable, AreNumbered}
 use Rattle.promise_graph.specs.Standing.{event_name, events_as, HasNodes, HasRing, Stands}
 use Rattle.promise_graph.proofs.Renamed.{disarmed_by, left_all}
 use Rattle.promise_graph.proofs.Naming.{apart_events, kept_queue, absent_unarmed}
@@ -37,8 +41,8 @@ nodes at r n es a h = record {
   rings = λ s node e t. subst (λ (o : Option Form). HasRing at r s node.number.0 (branches_of o)) (sym (without_other node.number.0 n es (other at n s node a e))) (h.rings s node e t);
 }
 
-stands : (at : ℕ → Option Node) (q r : Events) (sp : List Spot → Type 0) (m : Marks) (n : ℕ) (w : World) → IsAbsent at n → disarmed n (events_as (event_name at m.next) q) ≡ events_as (event_name at m.next) r → Stands at q sp m w → Stands at r sp m (gone_world n w)
-stands at q r sp m n w a queue st = record {
+stands : (at : ℕ → Option Node) (q r : Events) (sp : List Spot → Type 0) (m : Marks) (n : ℕ) (w : World) → AreNumbered at m → IsAbsent at n → disarmed n (events_as (event_name at m.next) q) ≡ events_as (event_name at m.next) r → Stands at q sp m w → Stands at r sp m (gone_world n w)
+stands at q r sp m n w k a queue st = record {
   seen = record {
     nodes = nodes at m.rings n w.nodes a st.seen.nodes;
     queue = ap (disarmed n) st.seen.queue ∙ queue;
@@ -48,6 +52,7 @@ stands at q r sp m n w a queue st = record {
     firing_is = st.seen.firing_is;
     awaited_is = st.seen.awaited_is;
     tasks = st.seen.tasks;
+    hubs = subst (λ (l : List ℕ). HasMembers m.numbers.items m.hubs m.slots m.next l) (sym (hubs_without n w.nodes)) (members_without at m n m.hubs k a (hubs_of w.nodes) st.seen.hubs);
   };
   owned = st.owned;
 }
@@ -68,7 +73,7 @@ returns-then-n-eq0-clause-stands g c w st =
     let at = g.St.Store.node_at c.args.g.now.store in
     let m = c.args.g.now.marks in
     let q = g.Q.Queue.events c.args.g.now.queue in
-    stands at q _ _ m c.args.n w c.requires.absent
+    stands at q _ _ m c.args.n w k.sound.numbered c.requires.absent
     (ap (λ (j : ℕ). disarmed j (events_as (event_name at m.next) q)) c.if-n-eq0.true ∙ sym (disarmed_by (event_name at m.next) (apart_events at m k.sound.numbered) 0 q) ∙ ap (events_as (event_name at m.next)) (sym c.disarm.ensures.disarmed)) st
 
 pub returns-else-n-eq0-clause-stands : goal.returns-else-n-eq0-clause-stands
@@ -77,4 +82,4 @@ returns-else-n-eq0-clause-stands g c w st =
     let at = g.St.Store.node_at c.args.g.now.store in
     let m = c.args.g.now.marks in
     let q = g.Q.Queue.events c.args.g.now.queue in
-    stands at q q _ m c.args.n w c.requires.absent (absent_unarmed at m.next c.args.n q c.requires.absent c.if-n-eq0.false k.sound.events.armed) st
+    stands at q q _ m c.args.n w k.sound.numbered c.requires.absent (absent_unarmed at m.next c.args.n q c.requires.absent c.if-n-eq0.false k.sound.events.armed) st

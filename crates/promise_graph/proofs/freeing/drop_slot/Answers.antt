@@ -1,9 +1,12 @@
-use Rattle.std.proofs.Common.{◌≡◌, ◌∙◌, sym, ap, ◌+◌, ◌<◌, suc, arith, length, ℕ, subst, refl, inl, inr}
+use Rattle.std.proofs.Common.{List, ◌≡◌, ◌∙◌, sym, ap, ◌+◌, ◌<◌, suc, arith, length, ℕ, subst, refl, inl, inr}
 use Rattle.std.proofs.lemmas.List.{length-set}
 use Rattle.std.proofs.lemmas.Bool.{cases_eq}
 use Rattle.std.specs.List.{AllByRecursion}
 use Rattle.kj_base.specs.Queue.{Events, disarmed, IsQueue}
 use Rattle.kj_base.proofs.QueueLemmas.{disarmed_keeps}
+use Rattle.kj_model.specs.Calls.{hubs_of}
+use Rattle.promise_nodes.proofs.Hubs.{hubs_without}
+use Rattle.promise_graph.specs.Members.{HasMembers}
 use Rattle.promise_graph.specs.Slots.{number_of, number_at}
 use Rattle.promise_graph.specs.Rings.{ArePaired}
 use Rattle.promise_graph.specs.Kept.{IsArmable, hub_of, is_plain_node}
@@ -13,7 +16,7 @@ use Rattle.promise_graph.proofs.Places.{spots_but}
 use Rattle.promise_graph.proofs.Cutting.{alone_still}
 use Rattle.promise_graph.proofs.Falling.{falls}
 use Rattle.promise_graph.proofs.Gone.{other_number, not_slot, still, still_low, still_live, live_slot, numbers_gone, armable, queue_gone, nodes_gone, before}
-use Rattle.promise_graph.proofs.Tasks.{tasks_gone}
+use Rattle.promise_graph.proofs.Members.{members_gone, members_without, gone_absent}
 use Rattle.promise_graph.proofs.freeing.drop_slot.Goals as goal
 
 pub returns-clause-kept : goal.returns-clause-kept
@@ -60,6 +63,7 @@ returns-clause-kept g c =
           | inr d ↦ alone_still m.rings c.cut.new.rings slot m.slots s c.cut.ensures all.sound.paired low (all.sound.single s h (sym (free.nodes s d) ∙ e))
         ];
         tasks_paired = subst (λ (j : ℕ). ArePaired c.cut-2.new.rings j) all.sound.tasks_paired.all_next c.cut-2.ensures.paired;
+        hubs_paired = subst (λ (j : ℕ). ArePaired c.cut-3.new.rings j) all.sound.hubs_paired.all_next c.cut-3.ensures.paired;
       };
       owned = record {
         all_owners = all.owned.all_owners;
@@ -90,7 +94,10 @@ returns-clause-stands g c w st =
         slots_are = st.seen.slots_are;
         firing_is = st.seen.firing_is;
         awaited_is = st.seen.awaited_is;
-        tasks = tasks_gone at new m _ slot n k (returns-clause-kept g c).sound.numbered live (ap number_of free.freed) (λ s d. ap number_of (free.nodes s d)) c.cut-2.new.rings w.detached c.cut-2.ensures all.sound.tasks_paired st.seen.tasks;
+        tasks = members_gone at new m _ slot n k (returns-clause-kept g c).sound.numbered live (ap number_of free.freed) (λ s d. ap number_of (free.nodes s d)) m.tasks c.cut-2.new.rings w.detached c.cut-2.ensures all.sound.tasks_paired st.seen.tasks;
+        hubs = subst (λ (l : List ℕ). HasMembers c.set_number.new.numbers.items c.cut-3.new.rings m.slots m.next l) (sym (hubs_without n w.nodes))
+            (members_without new _ n c.cut-3.new.rings (returns-clause-kept g c).sound.numbered (gone_absent at new m _ slot n k (returns-clause-kept g c).sound.numbered live (ap number_of free.freed) (λ s d. ap number_of (free.nodes s d))) (hubs_of w.nodes)
+            (members_gone at new m _ slot n k (returns-clause-kept g c).sound.numbered live (ap number_of free.freed) (λ s d. ap number_of (free.nodes s d)) m.hubs c.cut-3.new.rings (hubs_of w.nodes) c.cut-3.ensures all.sound.hubs_paired st.seen.hubs));
       };
       owned = record {
         owner_is = λ s t j node e h i. st.owned.owner_is s t j node (before at new m slot n k live free.freed free.nodes s node e) (still at new m slot n k live free.freed free.nodes t j h) i;

@@ -1,12 +1,14 @@
-use Rattle.std.proofs.Common.{◌≡◌, ◌≢◌, ◌∙◌, sym, ap, ℕ, ◌<◌, refl, subst, Some, Bool, true, false, [], ◌∷◌}
+use Rattle.std.proofs.Common.{List, ◌≡◌, ◌≢◌, ◌∙◌, sym, ap, ℕ, ◌<◌, refl, subst, Some, Bool, true, false, [], ◌∷◌}
 use Rattle.std.specs.Prelude.{◌||◌}
 use Rattle.std.proofs.lemmas.Bool.{false≢true}
 use Rattle.kj_model.specs.Nodes.{form_at, is_in}
 use Rattle.kj_model.specs.World.{World}
 use Rattle.kj_model.specs.Fire.{branches_of}
 use Rattle.promise_nodes.specs.Shown.{shown}
+use Rattle.promise_nodes.proofs.Hubs.{hubs_joined}
 use Rattle.promise_graph.specs.Slots.{number_of, number_at}
 use Rattle.promise_graph.specs.Kept.{hub_of, is_there, is_hub_node, is_same, is_listed}
+use Rattle.promise_graph.specs.Members.{HasMembers}
 use Rattle.promise_graph.specs.Standing.{Stands}
 use Rattle.promise_graph.proofs.Lists.{some_same, is_some_of, equal_yes, first_of_both, second_of_both}
 use Rattle.promise_graph.proofs.Falling.{unlisted, listed_in, listed_out}
@@ -51,6 +53,7 @@ returns-clause-stands g c w st =
         firing_is = st.seen.firing_is;
         awaited_is = st.seen.awaited_is;
         tasks = st.seen.tasks;
+        hubs = subst (λ (l : List ℕ). HasMembers m.numbers.items m.hubs m.slots m.next l) (sym (hubs_joined n hub w st.seen.nodes.once)) st.seen.hubs;
       };
       owned = record { owner_is = st.owned.owner_is; below = st.owned.below };
     })

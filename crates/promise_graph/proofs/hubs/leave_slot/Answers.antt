@@ -1,13 +1,15 @@
-use Rattle.std.proofs.Common.{◌≡◌, ◌∙◌, sym, ap, ℕ, ◌<◌, refl, subst, Some, Bool, true, false, not}
+use Rattle.std.proofs.Common.{List, ◌≡◌, ◌∙◌, sym, ap, ℕ, ◌<◌, refl, subst, Some, Bool, true, false, not}
 use Rattle.std.specs.Prelude.{◌&&◌}
 use Rattle.kj_model.specs.Nodes.{Branch, form_at}
 use Rattle.kj_model.specs.World.{World}
 use Rattle.kj_model.specs.Fire.{branches_of}
 use Rattle.promise_nodes.specs.Shown.{shown}
 use Rattle.promise_nodes.specs.Kept.{hub_of as hub_in}
+use Rattle.promise_nodes.proofs.Hubs.{hubs_left}
 use Rattle.promise_graph.specs.Slots.{number_of, number_at}
 use Rattle.promise_graph.specs.Rings.{next_at, ArePaired}
 use Rattle.promise_graph.specs.Kept.{hub_of, is_there, is_listed_at}
+use Rattle.promise_graph.specs.Members.{HasMembers}
 use Rattle.promise_graph.specs.Standing.{Stands}
 use Rattle.promise_graph.proofs.Lists.{some_same, is_some_of, equal_yes}
 use Rattle.promise_graph.proofs.Numbered.{slot_live}
@@ -43,6 +45,7 @@ returns g c =
           paired = subst (λ (j : ℕ). ArePaired r j) all.sound.paired.all_next cut.paired;
           single = λ s h e. alone_still m.rings r slot m.slots s cut all.sound.paired low (all.sound.single s h e);
           tasks_paired = all.sound.tasks_paired;
+          hubs_paired = all.sound.hubs_paired;
         };
         owned = record { all_owners = all.owned.all_owners; bare_is = all.owned.bare_is };
       };
@@ -62,6 +65,7 @@ returns g c =
               firing_is = st.seen.firing_is;
               awaited_is = st.seen.awaited_is;
               tasks = st.seen.tasks;
+              hubs = subst (λ (l : List ℕ). HasMembers m.numbers.items m.hubs m.slots m.next l) (sym (hubs_left n hub w st.seen.nodes.once)) st.seen.hubs;
             };
             owned = record { owner_is = st.owned.owner_is; below = st.owned.below };
           });

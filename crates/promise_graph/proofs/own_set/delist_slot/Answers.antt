@@ -1,6 +1,6 @@
 use Rattle.std.proofs.Common.{ℕ, refl, subst}
 use Rattle.promise_graph.specs.Rings.{ArePaired}
-use Rattle.promise_graph.proofs.Tasks.{tasks_cut}
+use Rattle.promise_graph.proofs.Members.{members_cut}
 use Rattle.promise_graph.proofs.own_set.delist_slot.Goals as goal
 
 pub returns : goal.returns
@@ -18,6 +18,7 @@ returns g c =
           paired = all.sound.paired;
           single = all.sound.single;
           tasks_paired = subst (λ (j : ℕ). ArePaired c.cut.new.rings j) all.sound.tasks_paired.all_next c.cut.ensures.paired;
+          hubs_paired = all.sound.hubs_paired;
         };
         owned = record { all_owners = all.owned.all_owners; bare_is = all.owned.bare_is };
       };
@@ -30,7 +31,8 @@ returns g c =
           slots_are = st.seen.slots_are;
           firing_is = st.seen.firing_is;
           awaited_is = st.seen.awaited_is;
-          tasks = tasks_cut at m c.args.slot.0 c.args.n k c.requires.live c.cut.new.rings w.detached c.cut.ensures all.sound.tasks_paired st.seen.tasks;
+          tasks = members_cut at m c.args.slot.0 c.args.n k c.requires.live m.tasks c.cut.new.rings w.detached c.cut.ensures all.sound.tasks_paired st.seen.tasks;
+          hubs = st.seen.hubs;
         };
         owned = record { owner_is = st.owned.owner_is; below = st.owned.below };
       };

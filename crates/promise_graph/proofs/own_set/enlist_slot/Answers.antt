@@ -1,6 +1,6 @@
 use Rattle.std.proofs.Common.{ℕ, ◌+◌, refl, subst}
 use Rattle.promise_graph.specs.Rings.{ArePaired}
-use Rattle.promise_graph.proofs.Tasks.{tasks_listed}
+use Rattle.promise_graph.proofs.Members.{members_listed}
 use Rattle.promise_graph.proofs.own_set.enlist_slot.Goals as goal
 
 pub returns : goal.returns
@@ -21,6 +21,7 @@ returns g c =
           paired = all.sound.paired;
           single = all.sound.single;
           tasks_paired = subst (λ (j : ℕ). ArePaired c.join.new.rings j) paired.all_next c.join.ensures.paired;
+          hubs_paired = all.sound.hubs_paired;
         };
         owned = record { all_owners = all.owned.all_owners; bare_is = all.owned.bare_is };
       };
@@ -33,7 +34,8 @@ returns g c =
           slots_are = st.seen.slots_are;
           firing_is = st.seen.firing_is;
           awaited_is = st.seen.awaited_is;
-          tasks = tasks_listed at m slot n k c.requires.live c.cut.new.rings c.join.new.rings w.detached c.cut.ensures c.join.ensures all.sound.tasks_paired new st.seen.tasks;
+          tasks = members_listed at m slot n k c.requires.live m.tasks c.cut.new.rings c.join.new.rings w.detached c.cut.ensures c.join.ensures all.sound.tasks_paired new st.seen.tasks;
+          hubs = st.seen.hubs;
         };
         owned = record { owner_is = st.owned.owner_is; below = st.owned.below };
       };

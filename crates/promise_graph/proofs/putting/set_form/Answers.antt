@@ -1,13 +1,14 @@
-use Rattle.std.proofs.Common.{◌≡◌, ◌∙◌, sym, ap, ℕ, refl, subst, Option, Some, None}
+use Rattle.std.proofs.Common.{List, ◌≡◌, ◌∙◌, sym, ap, ℕ, refl, subst, Option, Some, None}
 use Rattle.std.specs.Prelude.{IsSome, unwrap_or}
 use Rattle.kj_base.specs.declared.nodes.Node.{Node}
 use Rattle.promise_graph.specs.Slots.{number_at}
+use Rattle.promise_graph.specs.Members.{HasMembers}
 use Rattle.promise_graph.specs.Kept.{IsArmable}
 use Rattle.promise_graph.proofs.Lists.{none_some}
 use Rattle.promise_graph.proofs.Renamed.{all_more}
 use Rattle.promise_graph.proofs.Falling.{falls}
 use Rattle.promise_graph.proofs.Places.{spots_same}
-use Rattle.promise_graph.proofs.Put.{node_of, number_same, hub_same, plain_same, armable_same, queue_same, nodes_put}
+use Rattle.promise_graph.proofs.Put.{node_of, number_same, hub_same, plain_same, armable_same, queue_same, nodes_put, hubs_same}
 use Rattle.promise_graph.proofs.putting.set_form.Goals as goal
 
 still_none : (at new : ℕ → Option Node) (s : ℕ) → number_at new s ≡ number_at at s → new s ≡ None → at s ≡ None
@@ -53,6 +54,7 @@ returns-clause-kept g c =
         paired = all.sound.paired;
         single = λ s h e. all.sound.single s h (still_none at new s (same s) e);
         tasks_paired = all.sound.tasks_paired;
+        hubs_paired = all.sound.hubs_paired;
       };
       owned = record {
         all_owners = all.owned.all_owners;
@@ -80,6 +82,7 @@ returns-clause-seen g c w st =
       firing_is = st.firing_is;
       awaited_is = st.awaited_is;
       tasks = st.tasks;
+      hubs = subst (λ (l : List ℕ). HasMembers m.numbers.items m.hubs m.slots m.next l) (sym (hubs_same at new m slot n c.args.form node old.0 k c.requires.live refl refl old.1 c.set.ensures.changed c.set.ensures.nodes kind w.nodes st.nodes)) st.hubs;
     }
 
 pub returns-clause-falls : goal.returns-clause-falls

@@ -18,7 +18,7 @@ invariant_of-self c =
     }
 
 pub returns-clause-stands : goal.returns-clause-stands
-returns-clause-stands c w st listless =
+returns-clause-stands c w st =
     let inner : Stands (view_of c.self.inside) w = subst (λ (t : Table). Stands t w) (sym c.self.view_is) st in
     remove_stands c.args.name.0 c.take.new.entries.items (view_of c.self.inside) w c.take.ensures.items inner
 

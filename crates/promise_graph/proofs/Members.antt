@@ -1,22 +1,25 @@
--- The loop's own set, as nodes come and go.
+-- Lists of nodes in rings, as nodes come and go.
 use Rattle.std.proofs.Common.{◌≡◌, ◌≢◌, ℕ, ◌+◌, ◌<◌, List, [], ◌∷◌, ◌++◌, Option, None, Some, Bool, true, false, cond, not, map, arith, refl, sym, ap, ◌∙◌, inl, inr, subst}
 use Rattle.std.specs.Prelude.{◌==◌, ◌&&◌, ◌||◌, filter, find, reverse, is_some, nat_lt, unwrap_or, slice_index_or, if◌then◌else◌}
 use Rattle.std.specs.List.{AllByRecursion}
 use Rattle.std.proofs.lemmas.Bool.{cases_eq, false≢true}
 use Rattle.std.proofs.lemmas.Bool.Decides.{nat_tests}
-use Rattle.std.proofs.lemmas.List.{reverse-append}
+use Rattle.std.proofs.lemmas.List.{reverse-append, append-nil}
 use Rattle.kj_base.specs.declared.nodes.Node.{Node}
 use Rattle.kj_model.specs.Nodes.{Form, Entry as Seen, form_at, dropped, is_in}
+use Rattle.kj_base.specs.Queue.{first_of}
 use Rattle.kj_model.specs.World.{World}
+use Rattle.kj_model.specs.Calls.{hubs_of}
 use Rattle.kj_model.specs.Fire.{branches_of}
 use Rattle.promise_nodes.specs.Shown.{shown}
 use Rattle.promise_nodes.specs.Kept.{is_live, newest_task}
+use Rattle.promise_nodes.proofs.Hubs.{hubs_live}
 use Rattle.promise_graph.specs.declared.fields.Marks.{Marks}
 use Rattle.promise_graph.specs.declared.fields.Rings.{Rings}
 use Rattle.promise_graph.specs.Slots.{number_of, number_at, IsAbsent, Finds, slot_of}
-use Rattle.promise_graph.specs.Rings.{next_at, prev_at, IsPath, IsOut, ArePaired, IsCut, IsJoined}
+use Rattle.promise_graph.specs.Rings.{next_at, prev_at, IsPath, IsOut, ArePaired, IsCut, IsJoined, MayBeListed}
 use Rattle.promise_graph.specs.Kept.{AreNumbered, is_there}
-use Rattle.promise_graph.specs.Tasks.{is_given, HasTasks}
+use Rattle.promise_graph.specs.Members.{is_given, HasMembers}
 use Rattle.promise_graph.specs.Standing.{HasNodes}
 use Rattle.promise_graph.proofs.Lists.{some_same, none_some, equal_yes, equal_not, not_equal, is_some_of, all_filter, all_append, map_append}
 use Rattle.promise_graph.proofs.Numbered.{one_slot, slot_live, slot_absent, slot_is, live_found}
@@ -101,18 +104,18 @@ module _ (at : ℕ → Option Node) (m : Marks) (slot n : ℕ) (k : AreNumbered 
   head_apart p = absurd (let low = k.low slot (is_some_of (number_at at slot) n live) in omega (arith, low, p))
 
   -- the task of a slot leaves the ring
-  pub tasks_cut : (r : Rings) (detached : List ℕ) → IsCut m.tasks r slot → ArePaired m.tasks (m.slots + 1) → (t : HasTasks m.numbers.items m.tasks m.slots m.next detached)
-      → HasTasks m.numbers.items r m.slots m.next (dropped n detached)
-  tasks_cut r detached cut paired t =
+  pub members_cut : (r0 r : Rings) (listed : List ℕ) → IsCut r0 r slot → ArePaired r0 (m.slots + 1) → (t : HasMembers m.numbers.items r0 m.slots m.next listed)
+      → HasMembers m.numbers.items r m.slots m.next (dropped n listed)
+  members_cut r0 r listed cut paired t =
       let low = k.low slot (is_some_of (number_at at slot) n live) in
       record {
-        tasks = dropped slot t.tasks;
-        ring = path_dropped m.tasks r slot (m.slots + 1) cut paired (omega (arith, low)) m.slots m.slots t.tasks t.ring head_apart head_apart t.apart;
-        apart = apart_dropped slot m.slots t.tasks t.apart;
-        each = all_filter (λ s. 0 < slice_index_or m.numbers.items s 0) (λ s. 0 < slice_index_or m.numbers.items s 0) (λ s. not (s == slot)) (λ s e h. h) t.tasks t.each;
-        named = filter_swap (is_given m.numbers.items) (λ x. not (x == n)) detached ∙ ap (dropped n) t.named
-            ∙ map_dropped (λ s. slice_index_or m.numbers.items s 0) slot n t.tasks (all_more (λ s. 0 < slice_index_or m.numbers.items s 0) (λ s. (slice_index_or m.numbers.items s 0 == n) ≡ (s == slot)) number_test t.tasks t.each);
-        below = all_filter (λ x. x < m.next) (λ x. x < m.next) (λ x. not (x == n)) (λ x e h. h) detached t.below;
+        members = dropped slot t.members;
+        ring = path_dropped r0 r slot (m.slots + 1) cut paired (omega (arith, low)) m.slots m.slots t.members t.ring head_apart head_apart t.apart;
+        apart = apart_dropped slot m.slots t.members t.apart;
+        each = all_filter (λ s. 0 < slice_index_or m.numbers.items s 0) (λ s. 0 < slice_index_or m.numbers.items s 0) (λ s. not (s == slot)) (λ s e h. h) t.members t.each;
+        named = filter_swap (is_given m.numbers.items) (λ x. not (x == n)) listed ∙ ap (dropped n) t.named
+            ∙ map_dropped (λ s. slice_index_or m.numbers.items s 0) slot n t.members (all_more (λ s. 0 < slice_index_or m.numbers.items s 0) (λ s. (slice_index_or m.numbers.items s 0 == n) ≡ (s == slot)) number_test t.members t.each);
+        below = all_filter (λ x. x < m.next) (λ x. x < m.next) (λ x. not (x == n)) (λ x e h. h) listed t.below;
       }
 
   out_of : (xs : List ℕ) → is_in n (map (λ s. slice_index_or m.numbers.items s 0) xs) ≡ false → IsOut slot xs
@@ -124,33 +127,33 @@ module _ (at : ℕ → Option Node) (m : Marks) (slot n : ℕ) (k : AreNumbered 
       out_case false c e h f = ((λ p. false≢true (sym e ∙ equal_yes (slice_index_or m.numbers.items x 0) n (ap (λ (i : ℕ). slice_index_or m.numbers.items i 0) (sym p) ∙ number_is at m k slot n live))), f h)
 
   -- a live node that is no task is the newest
-  pub tasks_listed : (r r' : Rings) (detached : List ℕ) → IsCut m.tasks r slot → IsJoined r r' slot m.slots → ArePaired m.tasks (m.slots + 1) → is_in n detached ≡ false → HasTasks m.numbers.items m.tasks m.slots m.next detached
-      → HasTasks m.numbers.items r' m.slots m.next (detached ++ n ∷ [])
-  tasks_listed r r' detached cut joined paired new t =
+  pub members_listed : (r0 r r' : Rings) (listed : List ℕ) → IsCut r0 r slot → IsJoined r r' slot m.slots → ArePaired r0 (m.slots + 1) → is_in n listed ≡ false → HasMembers m.numbers.items r0 m.slots m.next listed
+      → HasMembers m.numbers.items r' m.slots m.next (listed ++ n ∷ [])
+  members_listed r0 r r' listed cut joined paired new t =
       let low = k.low slot (is_some_of (number_at at slot) n live) in
-      let out : IsOut slot t.tasks = out_of t.tasks (ap (is_in n) (sym t.named) ∙ not_filtered n (is_given m.numbers.items) detached new) in
+      let out : IsOut slot t.members = out_of t.members (ap (is_in n) (sym t.named) ∙ not_filtered n (is_given m.numbers.items) listed new) in
       let paired' : ArePaired r (m.slots + 1) = subst (λ (j : ℕ). ArePaired r j) paired.all_next cut.paired in
-      let ring = ring_without m.tasks r slot (m.slots + 1) m.slots t.tasks cut paired (omega (arith, low)) t.ring (λ p. head_apart (sym p)) out in
+      let ring = ring_without r0 r slot (m.slots + 1) m.slots t.members cut paired (omega (arith, low)) t.ring (λ p. head_apart (sym p)) out in
       record {
-        tasks = t.tasks ++ slot ∷ [];
-        ring = path_joined r r' slot m.slots (m.slots + 1) joined paired' (omega arith) m.slots t.tasks ring head_apart out t.apart;
-        apart = apart_more m.slots slot t.tasks t.apart head_apart out;
-        each = all_append (λ s. 0 < slice_index_or m.numbers.items s 0) t.tasks (slot ∷ []) t.each (let p = (k.given slot n live).0 in let e = number_is at m k slot n live in omega (arith, p, e), tt);
-        named = filter_last (is_given m.numbers.items) detached n (given_live at m k slot n live) ∙ ap (λ (l : List ℕ). l ++ n ∷ []) t.named
-            ∙ ap (λ (j : ℕ). map (λ s. slice_index_or m.numbers.items s 0) t.tasks ++ j ∷ []) (sym (number_is at m k slot n live))
-            ∙ sym (map_append (λ s. slice_index_or m.numbers.items s 0) t.tasks (slot ∷ []));
-        below = all_append (λ x. x < m.next) detached (n ∷ []) t.below ((k.given slot n live).1, tt);
+        members = t.members ++ slot ∷ [];
+        ring = path_joined r r' slot m.slots (m.slots + 1) joined paired' (omega arith) m.slots t.members ring head_apart out t.apart;
+        apart = apart_more m.slots slot t.members t.apart head_apart out;
+        each = all_append (λ s. 0 < slice_index_or m.numbers.items s 0) t.members (slot ∷ []) t.each (let p = (k.given slot n live).0 in let e = number_is at m k slot n live in omega (arith, p, e), tt);
+        named = filter_last (is_given m.numbers.items) listed n (given_live at m k slot n live) ∙ ap (λ (l : List ℕ). l ++ n ∷ []) t.named
+            ∙ ap (λ (j : ℕ). map (λ s. slice_index_or m.numbers.items s 0) t.members ++ j ∷ []) (sym (number_is at m k slot n live))
+            ∙ sym (map_append (λ s. slice_index_or m.numbers.items s 0) t.members (slot ∷ []));
+        below = all_append (λ x. x < m.next) listed (n ∷ []) t.below ((k.given slot n live).1, tt);
       }
 
 -- a number that no node has leaves the list
-pub tasks_without : (at : ℕ → Option Node) (m : Marks) (n : ℕ) → AreNumbered at m → IsAbsent at n → (detached : List ℕ) → HasTasks m.numbers.items m.tasks m.slots m.next detached → HasTasks m.numbers.items m.tasks m.slots m.next (dropped n detached)
-tasks_without at m n k a detached t = record {
-  tasks = t.tasks;
+pub members_without : (at : ℕ → Option Node) (m : Marks) (n : ℕ) (r0 : Rings) → AreNumbered at m → IsAbsent at n → (listed : List ℕ) → HasMembers m.numbers.items r0 m.slots m.next listed → HasMembers m.numbers.items r0 m.slots m.next (dropped n listed)
+members_without at m n r0 k a listed t = record {
+  members = t.members;
   ring = t.ring;
   apart = t.apart;
   each = t.each;
-  named = sym (filter_both (λ x. not (x == n)) (is_given m.numbers.items) (is_given m.numbers.items) (λ x. not_it x) detached) ∙ t.named;
-  below = all_filter (λ x. x < m.next) (λ x. x < m.next) (λ x. not (x == n)) (λ x e h. h) detached t.below;
+  named = sym (filter_both (λ x. not (x == n)) (is_given m.numbers.items) (is_given m.numbers.items) (λ x. not_it x) listed) ∙ t.named;
+  below = all_filter (λ x. x < m.next) (λ x. x < m.next) (λ x. not (x == n)) (λ x e h. h) listed t.below;
 }
   where
     not_it : (x : ℕ) → is_given m.numbers.items x ≡ (not (x == n) && is_given m.numbers.items x)
@@ -162,7 +165,7 @@ tasks_without at m n k a detached t = record {
 -- ---- a node goes
 
 module _ (at new : ℕ → Option Node) (m m' : Marks) (slot n : ℕ) (k : AreNumbered at m) (k' : AreNumbered new m') (live : number_at at slot ≡ Some n) (gone : number_at new slot ≡ None) (others : (s : ℕ) → s ≢ slot → number_at new s ≡ number_at at s) where
-  gone_absent : IsAbsent new n
+  pub gone_absent : IsAbsent new n
   gone_absent s h = elim (cases_eq s slot) [
     | inl p ↦ none_some n (sym gone ∙ ap (number_at new) (sym p) ∙ h)
     | inr d ↦ d (one_slot at m k s slot n (sym (others s d) ∙ h) live)
@@ -184,18 +187,18 @@ module _ (at new : ℕ → Option Node) (m m' : Marks) (slot n : ℕ) (k : AreNu
   number_still : (s : ℕ) → s ≢ slot → 0 < slice_index_or m.numbers.items s 0 → slice_index_or m'.numbers.items s 0 ≡ slice_index_or m.numbers.items s 0
   number_still s d h = number_is new m' k' s (slice_index_or m.numbers.items s 0) (others s d ∙ number_there at m k s h)
 
-  pub tasks_gone : (r : Rings) (detached : List ℕ) → IsCut m.tasks r slot → ArePaired m.tasks (m.slots + 1) → HasTasks m.numbers.items m.tasks m.slots m.next detached → HasTasks m'.numbers.items r m.slots m.next detached
-  unfolding tasks_cut
-  tasks_gone r detached cut paired t =
-      let c = tasks_cut at m slot n k live r detached cut paired t in
-      let there = stay t.tasks t.each in
+  pub members_gone : (r0 r : Rings) (listed : List ℕ) → IsCut r0 r slot → ArePaired r0 (m.slots + 1) → HasMembers m.numbers.items r0 m.slots m.next listed → HasMembers m'.numbers.items r m.slots m.next listed
+  unfolding members_cut
+  members_gone r0 r listed cut paired t =
+      let c = members_cut at m slot n k live r0 r listed cut paired t in
+      let there = stay t.members t.each in
       record {
-        tasks = c.tasks;
+        members = c.members;
         ring = c.ring;
         apart = c.apart;
-        each = all_more (λ s. (0 < slice_index_or m.numbers.items s 0) × (slice_index_or m'.numbers.items s 0 ≡ slice_index_or m.numbers.items s 0)) (λ s. 0 < slice_index_or m'.numbers.items s 0) (λ s h. omega (arith, h.0, h.1)) c.tasks there;
-        named = filter_both (is_given m.numbers.items) (λ x. not (x == n)) (is_given m'.numbers.items) given_gone detached ∙ filter_swap (λ x. not (x == n)) (is_given m.numbers.items) detached ∙ c.named
-            ∙ named_same (λ s. slice_index_or m.numbers.items s 0) (λ s. slice_index_or m'.numbers.items s 0) c.tasks (all_more (λ s. (0 < slice_index_or m.numbers.items s 0) × (slice_index_or m'.numbers.items s 0 ≡ slice_index_or m.numbers.items s 0)) (λ s. slice_index_or m'.numbers.items s 0 ≡ slice_index_or m.numbers.items s 0) (λ s h. h.1) c.tasks there);
+        each = all_more (λ s. (0 < slice_index_or m.numbers.items s 0) × (slice_index_or m'.numbers.items s 0 ≡ slice_index_or m.numbers.items s 0)) (λ s. 0 < slice_index_or m'.numbers.items s 0) (λ s h. omega (arith, h.0, h.1)) c.members there;
+        named = filter_both (is_given m.numbers.items) (λ x. not (x == n)) (is_given m'.numbers.items) given_gone listed ∙ filter_swap (λ x. not (x == n)) (is_given m.numbers.items) listed ∙ c.named
+            ∙ named_same (λ s. slice_index_or m.numbers.items s 0) (λ s. slice_index_or m'.numbers.items s 0) c.members (all_more (λ s. (0 < slice_index_or m.numbers.items s 0) × (slice_index_or m'.numbers.items s 0 ≡ slice_index_or m.numbers.items s 0)) (λ s. slice_index_or m'.numbers.items s 0 ≡ slice_index_or m.numbers.items s 0) (λ s h. h.1) c.members there);
         below = t.below;
       }
     where
@@ -220,15 +223,15 @@ module _ (at new : ℕ → Option Node) (m m' : Marks) (slot : ℕ) (k : AreNumb
       let there = number_there at m k s h in
       number_is new m' k' s (slice_index_or m.numbers.items s 0) (others s (λ p. none_some _ (sym free ∙ ap (number_at at) (sym p) ∙ there)) ∙ there)
 
-  pub tasks_built : (detached : List ℕ) → HasTasks m.numbers.items m.tasks m.slots m.next detached → HasTasks m'.numbers.items m.tasks m.slots (m.next + 1) detached
-  tasks_built detached t = record {
-    tasks = t.tasks;
+  pub members_built : (r0 : Rings) (listed : List ℕ) → HasMembers m.numbers.items r0 m.slots m.next listed → HasMembers m'.numbers.items r0 m.slots (m.next + 1) listed
+  members_built r0 listed t = record {
+    members = t.members;
     ring = t.ring;
     apart = t.apart;
-    each = all_more (λ s. 0 < slice_index_or m.numbers.items s 0) (λ s. 0 < slice_index_or m'.numbers.items s 0) (λ s h. let e = number_same s h in omega (arith, h, e)) t.tasks t.each;
-    named = filter_same (is_given m.numbers.items) (is_given m'.numbers.items) detached (all_more (λ x. x < m.next) (λ x. is_given m'.numbers.items x ≡ is_given m.numbers.items x) given_still detached t.below) ∙ t.named
-        ∙ named_same (λ s. slice_index_or m.numbers.items s 0) (λ s. slice_index_or m'.numbers.items s 0) t.tasks (all_more (λ s. 0 < slice_index_or m.numbers.items s 0) (λ s. slice_index_or m'.numbers.items s 0 ≡ slice_index_or m.numbers.items s 0) number_same t.tasks t.each);
-    below = all_more (λ x. x < m.next) (λ x. x < m.next + 1) (λ x h. omega (arith, h)) detached t.below;
+    each = all_more (λ s. 0 < slice_index_or m.numbers.items s 0) (λ s. 0 < slice_index_or m'.numbers.items s 0) (λ s h. let e = number_same s h in omega (arith, h, e)) t.members t.each;
+    named = filter_same (is_given m.numbers.items) (is_given m'.numbers.items) listed (all_more (λ x. x < m.next) (λ x. is_given m'.numbers.items x ≡ is_given m.numbers.items x) given_still listed t.below) ∙ t.named
+        ∙ named_same (λ s. slice_index_or m.numbers.items s 0) (λ s. slice_index_or m'.numbers.items s 0) t.members (all_more (λ s. 0 < slice_index_or m.numbers.items s 0) (λ s. slice_index_or m'.numbers.items s 0 ≡ slice_index_or m.numbers.items s 0) number_same t.members t.each);
+    below = all_more (λ x. x < m.next) (λ x. x < m.next + 1) (λ x h. omega (arith, h)) listed t.below;
   }
 
 -- ---- the newest task
@@ -301,10 +304,10 @@ module _ (at : ℕ → Option Node) (m : Marks) (k : AreNumbered at m) where
       ∙ ap (λ (b : Bool). if b then Some (slice_index_or m.numbers.items last 0) else None) here
       ∙ ap (λ (j : ℕ). Some j) (sym (last_map (λ s. slice_index_or m.numbers.items s 0) x xs))
 
-  pub newest_is : (w : World) → HasNodes at m.rings w.nodes → HasTasks m.numbers.items m.tasks m.slots m.next w.detached
+  pub newest_is : (w : World) → HasNodes at m.rings w.nodes → HasMembers m.numbers.items m.tasks m.slots m.next w.detached
       → (if nat_lt (prev_at m.tasks m.slots) m.slots then Some (slice_index_or m.numbers.items (prev_at m.tasks m.slots) 0) else None) ≡ newest_task w
   newest_is w has t =
-      last_place t.tasks t.ring t.each
+      last_place t.members t.ring t.each
       ∙ ap last_of (sym t.named)
       ∙ ap last_of (filter_same (is_live w) (is_given m.numbers.items) w.detached (any w.detached))
       ∙ sym (find_reverse (is_live w) w.detached)
@@ -312,3 +315,55 @@ module _ (at : ℕ → Option Node) (m : Marks) (k : AreNumbered at m) where
       any : (xs : List ℕ) → AllByRecursion (λ x. is_given m.numbers.items x ≡ is_live w x) xs
       any [] = tt
       any (x ∷ xs) = (sym (live_given at m w.nodes k has x), any xs)
+
+-- ---- the oldest hub
+
+all_kept : (p : ℕ → Bool) (xs : List ℕ) → AllByRecursion (λ x. p x ≡ true) xs → filter p xs ≡ xs
+all_kept p [] h = refl
+all_kept p (x ∷ xs) h = ap (λ (b : Bool). cond b (x ∷ filter p xs) (filter p xs)) h.0 ∙ ap (λ (l : List ℕ). x ∷ l) (all_kept p xs h.1)
+
+module _ (at : ℕ → Option Node) (m : Marks) (k : AreNumbered at m) where
+  first_place : (r : Rings) (xs : List ℕ) → IsPath (next_at r) (prev_at r) m.slots xs m.slots → AllByRecursion (λ s. 0 < slice_index_or m.numbers.items s 0) xs
+      → (if nat_lt (next_at r m.slots) m.slots then Some (slice_index_or m.numbers.items (next_at r m.slots) 0) else None) ≡ first_of (map (λ s. slice_index_or m.numbers.items s 0) xs)
+  first_place r [] p h =
+      let here : nat_lt (next_at r m.slots) m.slots ≡ false = (let e = p.0 in grind (arith, nat_tests)) in
+      ap (λ (b : Bool). if b then Some (slice_index_or m.numbers.items (next_at r m.slots) 0) else None) here
+  first_place r (x ∷ xs) p h =
+      let there = number_there at m k x h.0 in
+      let low : x < m.slots = k.low x (is_some_of (number_at at x) _ there) in
+      let here : nat_lt x m.slots ≡ true = grind (arith, nat_tests) in
+      ap (λ (j : ℕ). if nat_lt j m.slots then Some (slice_index_or m.numbers.items j 0) else None) p.0
+      ∙ ap (λ (b : Bool). if b then Some (slice_index_or m.numbers.items x 0) else None) here
+
+  pub oldest_is : (es : List Seen) → HasNodes at m.rings es → HasMembers m.numbers.items m.hubs m.slots m.next (hubs_of es)
+      → (if nat_lt (next_at m.hubs m.slots) m.slots then Some (slice_index_or m.numbers.items (next_at m.hubs m.slots) 0) else None) ≡ first_of (hubs_of es)
+  oldest_is es has t =
+      first_place m.hubs t.members t.ring t.each
+      ∙ ap first_of (sym t.named)
+      ∙ ap first_of (all_kept (is_given m.numbers.items) (hubs_of es)
+      (all_more (λ x. is_some (form_at x es) ≡ true) (λ x. is_given m.numbers.items x ≡ true) (λ x h. sym (live_given at m es k has x) ∙ h) (hubs_of es) (hubs_live es)))
+
+-- ---- a node that may be listed
+
+pub paired_listed : (b : Bool) (old new : Rings) (m h slots : ℕ) → MayBeListed b old new m h → ArePaired old slots → ArePaired new slots
+paired_listed true old new m h slots l p =
+    let p' : ArePaired l.between slots = subst (λ (j : ℕ). ArePaired l.between j) p.all_next l.cut.paired in
+    subst (λ (j : ℕ). ArePaired new j) p'.all_next l.joined.paired
+paired_listed false old new m h slots l p = subst (λ (r : Rings). ArePaired r slots) (sym l) p
+
+below_case : (b : Bool) (n x : ℕ) (xs : List ℕ) → (x == n) ≡ b → x < n → is_in n xs ≡ false → (b || is_in n xs) ≡ false
+below_case true n x xs e low h = absurd (let same : x ≡ n = grind (arith, nat_tests) in omega (arith, same, low))
+below_case false n x xs e low h = h
+
+-- a number that wasn't given is in no list
+pub below_out : (n : ℕ) (xs : List ℕ) → AllByRecursion (λ x. x < n) xs → is_in n xs ≡ false
+below_out n [] h = refl
+below_out n (x ∷ xs) h = below_case (x == n) n x xs refl h.0 (below_out n xs h.1)
+
+module _ (at : ℕ → Option Node) (m : Marks) (slot n : ℕ) (k : AreNumbered at m) (live : number_at at slot ≡ Some n) where
+  -- a live node that isn't in the list may be its last
+  pub members_more : (b : Bool) (r0 r : Rings) (listed : List ℕ) → MayBeListed b r0 r slot m.slots → ArePaired r0 (m.slots + 1) → is_in n listed ≡ false → HasMembers m.numbers.items r0 m.slots m.next listed
+      → HasMembers m.numbers.items r m.slots m.next (listed ++ cond b (n ∷ []) [])
+  members_more true r0 r listed l paired new t = members_listed at m slot n k live r0 l.between r listed l.cut l.joined paired new t
+  members_more false r0 r listed l paired new t =
+      subst (λ (xs : List ℕ). HasMembers m.numbers.items r m.slots m.next xs) (sym (append-nil listed)) (subst (λ (x : Rings). HasMembers m.numbers.items x m.slots m.next listed) (sym l) t)
