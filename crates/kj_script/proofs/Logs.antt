@@ -1,5 +1,5 @@
 -- The log, line by line.
-use Rattle.std.proofs.Common.{◌≡◌, ◌∙◌, ◌<◌, ◌≤◌, ◌+◌, ℕ, zero, suc, Result, Ok, Err, OnOk, List, [], ◌∷◌, ◌++◌, Option, None, Some, false, map, length, drop, get_or, refl, sym, ap, subst, append-nil, arith}
+use Rattle.std.proofs.Common.{◌≡◌, ◌⊎◌, inl, inr, ◌∙◌, ◌<◌, ◌≤◌, ◌+◌, ℕ, zero, suc, Result, Ok, Err, OnOk, List, [], ◌∷◌, ◌++◌, Option, None, Some, false, map, length, drop, get_or, refl, sym, ap, subst, append-nil, arith}
 use Rattle.std.proofs.lemmas.List.{append_assoc}
 use Rattle.kj_base.specs.Counts.{HasLacked}
 use Rattle.kj_base.specs.Record.{Item, Tells}
@@ -164,3 +164,12 @@ run_ends rest turned FiredCase s l same other = absurd (other refl)
 run_ends rest turned IdleCase s l same other = ap (λ (t : Turned). run_rest rest t (turned_line [] s t l)) same
 run_ends rest turned NoMemoryCase s l same other = ap (λ (t : Turned). run_rest rest t (turned_line [] s t l)) same
 run_ends rest turned StoppedCase s l same other = ap (λ (t : Turned). run_rest rest t (turned_line [] s t l)) same
+
+-- three answers of a turn that are not idle
+pub not_idle : (case : TurnedCase) → (case ≡ FiredCase) ⊎ (case ≡ NoMemoryCase) ⊎ (case ≡ StoppedCase) → case ≡ IdleCase → ⊥
+not_idle FiredCase which e = absurd (cc e)
+not_idle IdleCase (inl a) e = absurd (cc a)
+not_idle IdleCase (inr (inl a)) e = absurd (cc a)
+not_idle IdleCase (inr (inr a)) e = absurd (cc a)
+not_idle NoMemoryCase which e = absurd (cc e)
+not_idle StoppedCase which e = absurd (cc e)
