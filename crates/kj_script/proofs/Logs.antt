@@ -1,18 +1,21 @@
 -- The log, line by line.
-use Rattle.std.proofs.Common.{◌≡◌, ◌∙◌, ◌<◌, ◌≤◌, ◌+◌, absurd, ℕ, zero, suc, Result, Ok, Err, OnOk, List, [], ◌∷◌, ◌++◌, Option, None, Some, false, map, length, drop, get_or, refl, sym, ap, subst, append-nil, arith}
+use Rattle.std.proofs.Common.{◌≡◌, ◌⊎◌, inl, inr, ◌∙◌, ◌<◌, ◌≤◌, ◌+◌, ℕ, zero, suc, Result, Ok, Err, OnOk, List, [], ◌∷◌, ◌++◌, Option, None, Some, false, map, length, drop, get_or, refl, sym, ap, subst, append-nil, arith}
 use Rattle.std.proofs.lemmas.List.{append_assoc}
 use Rattle.kj_base.specs.Counts.{HasLacked}
 use Rattle.kj_base.specs.Record.{Item, Tells}
 use Rattle.kj_model.specs.World.{World, State, Setting, Asked, Ended}
 use Rattle.kj_model.specs.Apply.{Refused}
 use Rattle.kj_model.specs.Calls.{Turned, Fired, Idle, NoMemory, Stopped, close}
-use Rattle.kj_model.specs.Log.{Body, LogLine, Logged, Numbered, Told as ToldLine, all_taken, applied_line, asks_taken, each_ask, each_end, each_gone, ends_taken, gone_taken, log_closed, logged, refused_line, scripted, told_since, turned_line, with_line, WasIdle}
+use Rattle.kj_model.specs.Log.{Body, LogLine, Logged, Numbered, Told as ToldLine, all_taken, applied_line, asks_taken, each_ask, each_end, each_gone, ends_taken, gone_taken, log_closed, logged, refused_line, run_rest, scripted, told_since, turned_line, RefusedAt, WasIdle}
 use Rattle.kj_model.specs.Text.{log_text, line_text}
 use Rattle.loop_core.specs.Calls.{AreLacking, CallIs, Closes, Lack, has_any}
 use Rattle.promise_commands.specs.Scripts.{numbered_of}
 use Rattle.promise_commands.specs.declared.script.NumberedLine.{NumberedLine}
 use Rattle.promise_names.specs.Held.{HasNoneListed}
 use Rattle.promise_steps.specs.Following.{Follows, Prints}
+use Rattle.promise_turns.specs.Turns.{turned_of}
+use Rattle.promise_turns.specs.declared.turned.Turned.{Turned as TurnedCase}
+use Rattle.promise_turns.specs.declared.turned.Turned.TheVariants.{Fired as FiredCase, Idle as IdleCase, NoMemory as NoMemoryCase, Stopped as StoppedCase}
 use Rattle.promise_walks.specs.Values.{Rule, setting_of}
 use Rattle.kj_script.specs.Running.{Shows}
 
@@ -41,7 +44,7 @@ told_is s r items e = ap (λ (xs : List Item). map ToldLine (drop (length s.past
 grown : (l : Logged) (r : State) (items : List Item) (old new : List ℕ) → r.past ≡ l.state.past ++ items → old ≡ log_text l.log → new ≡ old ++ log_text (map ToldLine items) → new ≡ log_text (logged l r []).log
 grown l r items old new past text more =
     more ∙ ap (λ (t : List ℕ). t ++ log_text (map ToldLine items)) text ∙ sym (log_text-append l.log (map ToldLine items))
-    ∙ ap (λ (xs : List LogLine). log_text (l.log ++ xs)) (sym (told_is l.state r items past) ∙ sym (append-nil (told_since l.state r)))
+    ∙ ap (λ (xs : List LogLine). log_text (l.log ++ xs)) (sym (told_is l.state r items past)) ∙ ap log_text (sym (append-nil (l.log ++ told_since l.state r)))
 
 no_lacks : (lacks : List Lack) → HasLacked (has_any lacks) 0 0 → lacks ≡ []
 no_lacks [] h = refl
@@ -74,15 +77,17 @@ call_printed {R} bodies Old New rule f reply a b c old new l call prints shows =
 -- one line more
 pub line_printed : (bodies : List Body) (Stands : State → Type 0) (told : Option (List Item)) (old new : List ℕ) (l : Logged) (s : State) (line : LogLine)
     → new ≡ old ++ line_text line ++ 10 ∷ [] → Shows bodies Stands told old (logged l s []) → Shows bodies Stands told new (logged l s (line ∷ []))
-line_printed bodies Stands told old new l s line more shows = record {
-  stands = shows.stands;
-  follows = shows.follows;
-  printed =
-      more ∙ ap (λ (t : List ℕ). t ++ line_text line ++ 10 ∷ []) shows.printed
-      ∙ ap (λ (t : List ℕ). log_text (l.log ++ told_since l.state s ++ []) ++ t) (sym (append-nil (line_text line ++ 10 ∷ [])))
-      ∙ sym (log_text-append (l.log ++ told_since l.state s ++ []) (line ∷ []))
-      ∙ ap log_text (append_assoc l.log (told_since l.state s ++ []) (line ∷ []) ∙ ap (λ (xs : List LogLine). l.log ++ xs) (append_assoc (told_since l.state s) [] (line ∷ [])));
-}
+line_printed bodies Stands told old new l s line more shows =
+    let log : List LogLine = l.log ++ told_since l.state s in
+    record {
+      stands = shows.stands;
+      follows = shows.follows;
+      printed =
+          more ∙ append_assoc old (line_text line) (10 ∷ [])
+          ∙ ap (λ (t : List ℕ). t ++ (line_text line ++ 10 ∷ [])) (shows.printed ∙ ap log_text (append-nil log))
+          ∙ ap (λ (t : List ℕ). log_text log ++ t) (sym (append-nil (line_text line ++ 10 ∷ [])))
+          ∙ sym (log_text-append log (line ∷ []));
+    }
 
 -- nothing is taken after a call
 pub taken_after : (bodies : List Body) (Stands : State → Type 0) (told : Option (List Item)) (text : List ℕ) (l : Logged) → ((s : State) → Stands s → HasNoneListed s.world) → Shows bodies Stands told text l → Shows bodies Stands told text (all_taken l)
@@ -96,6 +101,21 @@ turn_shown bodies Stands told text l s Fired none shows = taken_after bodies Sta
 turn_shown bodies Stands told text l s Idle none shows = shows
 turn_shown bodies Stands told text l s NoMemory none shows = taken_after bodies Stands told text (logged l s []) none shows
 turn_shown bodies Stands told text l s Stopped none shows = taken_after bodies Stands told text (logged l s []) none shows
+
+-- a command that was not refused
+pub command_done : (bodies : List Body) (New : State → Type 0) (told : Option (List Item)) (text : List ℕ) (l : Logged) (r : State × Option Refused) (number : ℕ) → ((s : State) → New s → HasNoneListed s.world)
+    → Printed bodies New told text l r None → Shows bodies New told text (applied_line number r l)
+command_done bodies New told text l r number none p =
+    subst (λ (refused : Option Refused). Shows bodies New told text (all_taken (logged l r.0 (refused_line number refused)))) (sym p.reply_is)
+    (taken_after bodies New told text (logged l r.0 []) none p.shows)
+
+-- a command that was refused, with its line
+pub command_refused : (bodies : List Body) (New : State → Type 0) (told : Option (List Item)) (old new : List ℕ) (l : Logged) (r : State × Option Refused) (number : ℕ) (refused : Refused) → ((s : State) → New s → HasNoneListed s.world)
+    → new ≡ old ++ line_text (RefusedAt number refused) ++ 10 ∷ [] → Printed bodies New told old l r (Some refused) → Shows bodies New told new (applied_line number r l)
+command_refused bodies New told old new l r number refused none more p =
+    subst (λ (o : Option Refused). Shows bodies New told new (all_taken (logged l r.0 (refused_line number o)))) (sym p.reply_is)
+    (taken_after bodies New told new (logged l r.0 (RefusedAt number refused ∷ [])) none
+    (line_printed bodies New told old new l r.0 (RefusedAt number refused) more p.shows))
 
 -- the closing ends the log
 pub closing_printed : (bodies : List Body) (Old : State → Type 0) (a b c : Option (List Item)) (old new : List ℕ) (l : Logged) → Closes Old a b → Prints b c old new → Shows bodies Old a old l → new ≡ log_text (log_closed l)
@@ -123,3 +143,33 @@ drop_all [] zero few = refl
 drop_all [] (suc i) few = refl
 drop_all (x ∷ xs) zero few = absurd (omega arith)
 drop_all (x ∷ xs) (suc i) few = drop_all xs i (omega arith)
+
+-- a turn that a line tells of
+pub turn_told : (bodies : List Body) (Stands : State → Type 0) (told : Option (List Item)) (text : List ℕ) (l : Logged) (s : State) (turned : Turned) (case : TurnedCase) → turned ≡ turned_of case → (case ≡ IdleCase → ⊥)
+    → Shows bodies Stands told text (turned_line [] s (turned_of case) l) → Shows bodies Stands told text (turned_line (WasIdle ∷ []) s turned l)
+turn_told bodies Stands told text l s turned FiredCase same other shows = subst (λ (t : Turned). Shows bodies Stands told text (turned_line (WasIdle ∷ []) s t l)) (sym same) shows
+turn_told bodies Stands told text l s turned IdleCase same other shows = absurd (other refl)
+turn_told bodies Stands told text l s turned NoMemoryCase same other shows = subst (λ (t : Turned). Shows bodies Stands told text (turned_line (WasIdle ∷ []) s t l)) (sym same) shows
+turn_told bodies Stands told text l s turned StoppedCase same other shows = subst (λ (t : Turned). Shows bodies Stands told text (turned_line (WasIdle ∷ []) s t l)) (sym same) shows
+
+-- a turn that found the queue empty, with its line
+pub idle_told : (bodies : List Body) (Stands : State → Type 0) (told : Option (List Item)) (old new : List ℕ) (l : Logged) (s : State) (turned : Turned) → turned ≡ Idle → new ≡ old ++ line_text WasIdle ++ 10 ∷ []
+    → Shows bodies Stands told old (turned_line [] s Idle l) → Shows bodies Stands told new (turned_line (WasIdle ∷ []) s turned l)
+idle_told bodies Stands told old new l s turned same more shows =
+    subst (λ (t : Turned). Shows bodies Stands told new (turned_line (WasIdle ∷ []) s t l)) (sym same) (line_printed bodies Stands told old new l s WasIdle more shows)
+
+-- a run of turns ends with one that doesn't fire
+pub run_ends : (rest : Logged → Logged) (turned : Turned) (case : TurnedCase) (s : State) (l : Logged) → turned ≡ turned_of case → (case ≡ FiredCase → ⊥) → run_rest rest turned (turned_line [] s turned l) ≡ turned_line [] s (turned_of case) l
+run_ends rest turned FiredCase s l same other = absurd (other refl)
+run_ends rest turned IdleCase s l same other = ap (λ (t : Turned). run_rest rest t (turned_line [] s t l)) same
+run_ends rest turned NoMemoryCase s l same other = ap (λ (t : Turned). run_rest rest t (turned_line [] s t l)) same
+run_ends rest turned StoppedCase s l same other = ap (λ (t : Turned). run_rest rest t (turned_line [] s t l)) same
+
+-- three answers of a turn that are not idle
+pub not_idle : (case : TurnedCase) → (case ≡ FiredCase) ⊎ (case ≡ NoMemoryCase) ⊎ (case ≡ StoppedCase) → case ≡ IdleCase → ⊥
+not_idle FiredCase which e = absurd (cc e)
+not_idle IdleCase (inl a) e = absurd (cc a)
+not_idle IdleCase (inr (inl a)) e = absurd (cc a)
+not_idle IdleCase (inr (inr a)) e = absurd (cc a)
+not_idle NoMemoryCase which e = absurd (cc e)
+not_idle StoppedCase which e = absurd (cc e)

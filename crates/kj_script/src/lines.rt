@@ -75,10 +75,11 @@ fn do_turn<N: Nodes + Drop, M: Names + Drop>(
             (turned_line (WasIdle ∷ []) (turn (setting_of N.rule bodies) l.state).0
                 (turn (setting_of N.rule bodies) l.state).1 l)) }
 {
-    match make_turn(over, steps, text) {
-        Ok(Turned::Idle) => print_idle(text),
-        Ok(_) => Ok(()),
-        Err(none) => Err(none),
+    match make_turn(over, steps, text)? {
+        Turned::Idle => print_idle(text),
+        Turned::Fired => Ok(()),
+        Turned::NoMemory => Ok(()),
+        Turned::Stopped => Ok(()),
     }
 }
 
