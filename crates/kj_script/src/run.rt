@@ -1,6 +1,5 @@
 //! A script, run on a loop of its own.
 ghost use Rattle.std.specs.Prelude.{◌≡◌, ◌≤◌, List, IfOk, OnOk};
-ghost use Rattle.event_links.specs.Links.{Links};
 ghost use Rattle.kj_model.specs.Log.{Body, Logged, limits_or, log_closed, log_of};
 ghost use Rattle.kj_model.specs.Places.{table_fits};
 ghost use Rattle.kj_model.specs.Text.{log_text};
@@ -59,7 +58,7 @@ fn close<N: Nodes + Drop, M: Names + Drop>(
 ) -> Result<(), NoMemory>
     ensures { OnOk result ((bodies : List Body) (l : Logged)
         → Shows bodies (StandsAt N.rule (N.stands over.nodes) (M.stands over.names))
-            (told_by steps.old) text.old l
+        (told_by steps.old) text.old l
         → text.new ≡ log_text (log_closed l)) }
 {
     over.close(steps);

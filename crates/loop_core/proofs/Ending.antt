@@ -1,5 +1,5 @@
 -- The closing frees each number once.
-use Rattle.std.proofs.Common.{◌≡◌, ◌∙◌, ℕ, List, [], ◌∷◌, ◌++◌, Option, refl, length, drop, sym, ap, subst}
+use Rattle.std.proofs.Common.{◌≡◌, ◌∙◌, List, [], ◌∷◌, ◌++◌, Option, refl, length, drop, sym, ap}
 use Rattle.kj_base.specs.Record.{Item}
 use Rattle.kj_model.specs.Calls.{close}
 use Rattle.kj_model.specs.Changes.{frees_in}
@@ -8,7 +8,7 @@ use Rattle.kj_model.specs.World.{World, State}
 use Rattle.kj_ownership.proofs.Cancels.{close_answers}
 use Rattle.kj_ownership.proofs.Closing.{close_frees_all}
 use Rattle.promise_walks.specs.Walks.{Both, Does}
-use Rattle.loop_core.specs.Calls.{Closes, FreesEachOnce}
+use Rattle.loop_core.specs.Calls.{Closes}
 use Rattle.loop_core.specs.Loops.{StandsAt}
 use Rattle.promise_walks.specs.Values.{Rule}
 
@@ -20,7 +20,7 @@ pub closing_frees : (rule : Rule) (OldNodes OldNames NewNodes NewNames : World �
     → Does (Both OldNodes OldNames) (Both NewNodes NewNames) close (λ s. s) a b → Closes (StandsAt rule OldNodes OldNames) a b
 closing_frees rule OldNodes OldNames NewNodes NewNames a b d =
     let past : (s : State) → StandsAt rule OldNodes OldNames s → (close s).past ≡ s.past ++ d.items = λ s old.
-        (let r = d.moves s old.stands in ap (λ (t : State). t.past) (sym r.ends) ∙ r.past_is) in
+    (let r = d.moves s old.stands in ap (λ (t : State). t.past) (sym r.ends) ∙ r.past_is) in
     record {
       items = d.items;
       told = d.told;

@@ -1,14 +1,13 @@
 //! A loop over keepers of nodes and names.
 ghost use Rattle.std.specs.Prelude.{◌≡◌, ◌≤◌, ◌+◌, ℕ, [], IfOk, None, false};
-ghost use Rattle.kj_base.specs.Counts.{Rose};
+ghost use Rattle.kj_base.specs.Counts.{HasLacked};
 ghost use Rattle.kj_base.specs.Queue.{no_events};
 ghost use Rattle.kj_model.specs.Apply.{apply};
 ghost use Rattle.kj_model.specs.Calls.{run, turn};
 ghost use Rattle.kj_model.specs.World.{State, new_state};
 ghost use Rattle.promise_commands.specs.Commands.{command_of};
 ghost use Rattle.promise_commands.specs.Refusals.{refusal_of};
-ghost use Rattle.promise_turns.specs.Turns.{turned_as};
-ghost use Rattle.promise_turns.specs.declared.turned.Turned.TheVariants.{NoMemory as NoMemoryTurned};
+ghost use Rattle.promise_turns.specs.Turns.{lacked_memory, turned_as};
 ghost use Rattle.loop_core.specs.Calls.{CallIs, Closes};
 ghost use Rattle.promise_graph.specs.Standing.{StandsFor};
 ghost use Rattle.name_table.specs.Table.{Stands as NamesStand};
@@ -70,7 +69,7 @@ impl<N: Nodes + Drop, M: Names + Drop> LoopOver<N, M> {
             (S.told steps.old) (S.told steps.new) (S.lacks steps.old) (S.lacks steps.new) }
         ensures memory { (s : State)
             → StandsAt N.rule (N.stands self.old.nodes) (M.stands self.old.names) s
-            → result ≡ NoMemoryTurned → Rose (S.lacks steps.old) (S.lacks steps.new) }
+            → HasLacked (lacked_memory result) (S.lacks steps.old) (S.lacks steps.new) }
     {
         turn_over(&mut self.over, steps)
     }
@@ -84,7 +83,7 @@ impl<N: Nodes + Drop, M: Names + Drop> LoopOver<N, M> {
             (S.told steps.old) (S.told steps.new) (S.lacks steps.old) (S.lacks steps.new) }
         ensures memory { (s : State)
             → StandsAt N.rule (N.stands self.old.nodes) (M.stands self.old.names) s
-            → result ≡ NoMemoryTurned → Rose (S.lacks steps.old) (S.lacks steps.new) }
+            → HasLacked (lacked_memory result) (S.lacks steps.old) (S.lacks steps.new) }
     {
         run_over(&mut self.over, turns, steps)
     }
