@@ -1,16 +1,16 @@
 -- Hubs that go one after another.
-use Rattle.std.proofs.Common.{◌≡◌, ◌∙◌, refl, sym, ap, subst, ℕ, ◌+◌, ◌<◌, ◌≤◌, List, [], ◌∷◌, Option, None, Some, Bool, true, false, cond, not, map, arith}
-use Rattle.std.specs.Prelude.{◌==◌, ◌&&◌, ◌||◌, nat_eq, filter, find, is_some}
+use Rattle.std.proofs.Common.{◌≡◌, ◌∙◌, refl, sym, ap, subst, ℕ, ◌<◌, ◌≤◌, List, [], ◌∷◌, Option, None, Some, Bool, true, false, cond, not, arith}
+use Rattle.std.specs.Prelude.{◌==◌, ◌&&◌, ◌||◌, nat_eq, filter, find}
 use Rattle.std.specs.List.{AllByRecursion}
 use Rattle.std.proofs.lemmas.Bool.{false≢true}
 use Rattle.std.proofs.lemmas.Bool.Decides.{nat_tests}
 use Rattle.kj_base.specs.Queue.{first_of}
 use Rattle.kj_model.specs.Nodes.{Entry, Form, Hub, form_at, is_in}
 use Rattle.kj_model.specs.World.{World, State, depth_of}
-use Rattle.kj_model.specs.Free.{Every, free, each_freed}
+use Rattle.kj_model.specs.Free.{Every, each_freed}
 use Rattle.kj_model.specs.Owned.{numbers}
 use Rattle.kj_model.specs.Trees.{none_if}
-use Rattle.kj_model.specs.Falling.{form_staying, some_staying, form_then, falling}
+use Rattle.kj_model.specs.Falling.{form_staying, some_staying, falling}
 use Rattle.kj_model.specs.Calls.{hubs_of, hubs_closed}
 use Rattle.kj_model.proofs.Falling.{node_frees}
 use Rattle.promise_nodes.specs.Kept.{is_hub, is_live}

@@ -7,7 +7,7 @@ use Rattle.kj_model.specs.Nodes.{Form, Hub, form_at}
 use Rattle.kj_model.specs.World.{World, State, Named, Held, Promise, CellOf, AskCell, HubOf, Group, Canceler, RequestOf, held_at, depth_of}
 use Rattle.kj_model.specs.Changes.{silent, unnamed, without_name}
 use Rattle.kj_model.specs.Effects.{hub_unnamed, hub_unnamed_in}
-use Rattle.kj_model.specs.Free.{Guard, Holding, free, free_unless, free_unreferenced, is_guarded, each_freed}
+use Rattle.kj_model.specs.Free.{Holding, free_unless, free_unreferenced, is_guarded, each_freed}
 use Rattle.kj_model.specs.Framed.{stripped}
 use Rattle.kj_model.specs.Calls.{closed_held, each_closed, names_closed}
 use Rattle.kj_model.proofs.Falling.{node_frees}

@@ -1,5 +1,5 @@
 use Rattle.std.proofs.Common.{sym, ap, []}
-use Rattle.kj_model.specs.World.{World, State}
+use Rattle.kj_model.specs.World.{World}
 use Rattle.kj_model.specs.Calls.{closed_held}
 use Rattle.promise_names.specs.declared.names.Held.{Held}
 use Rattle.promise_names.specs.Held.{held_shown}

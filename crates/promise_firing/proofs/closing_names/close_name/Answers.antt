@@ -1,5 +1,5 @@
-use Rattle.std.proofs.Common.{◌≡◌, ◌∙◌, refl, sym, ap, subst, ℕ, [], Option, None, Some}
-use Rattle.kj_model.specs.World.{World, State, Held, held_at}
+use Rattle.std.proofs.Common.{refl, sym, ap, subst, [], Option}
+use Rattle.kj_model.specs.World.{World, Held, held_at}
 use Rattle.kj_model.specs.Changes.{silent, unnamed}
 use Rattle.kj_model.specs.Calls.{closed_held}
 use Rattle.promise_names.specs.declared.names.Held.{Held as HeldCase}

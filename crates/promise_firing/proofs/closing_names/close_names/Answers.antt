@@ -1,7 +1,7 @@
-use Rattle.std.proofs.Common.{◌≡◌, ◌∙◌, ◌≤◌, ◌-◌, sym, ap, subst, ℕ, Some, refl, length, arith}
-use Rattle.kj_model.specs.World.{World, State}
+use Rattle.std.proofs.Common.{◌≡◌, ◌∙◌, ◌≤◌, ◌-◌, sym, ap, subst, ℕ, refl, length, arith}
+use Rattle.kj_model.specs.World.{World}
 use Rattle.kj_model.specs.Calls.{names_closed}
-use Rattle.promise_names.specs.Held.{first_name, name_number}
+use Rattle.promise_names.specs.Held.{name_number}
 use Rattle.promise_walks.specs.Walks.{Both}
 use Rattle.promise_walks.proofs.Composed.{does_then}
 use Rattle.promise_firing.specs.Closed.{name_closed}
