@@ -109,17 +109,19 @@ impl Reader {
     ghost use Rattle.http_frames.specs.Pieces.{IsSoundReader, IsReadBy, ReadsPiece, IsProgress, TookAll};
     ghost use Rattle.http_frames.specs.declared.reader.Stage.TheVariants.{Line, LineEnd, Data, DataCr, DataLf, Trailer, Crowded};
 
-    /// The body is read into the memory of these octets, which are dropped.
-    pub fn new(alloc: Global, mut memory: Bytes) -> Reader
+    /// The body is read into the memory of these octets, which are dropped, and what is kept beside
+    /// it into that of the others.
+    pub fn new(alloc: Global, mut body: Bytes, mut kept: Bytes) -> Reader
         ensures sound { IsSoundReader result }
         ensures read { IsReadBy result [] }
         ensures body { result.body ≡ [] }
     {
-        memory.truncate(0);
+        body.truncate(0);
+        kept.truncate(0);
         Reader {
             alloc,
-            body: memory,
-            pending: Bytes::new(alloc),
+            body,
+            pending: kept,
             stage: Stage::Line,
         }
     }
