@@ -135,6 +135,7 @@ impl Reader {
         ensures some { IfOk result (λ taken. IfSome taken (λ n. (0 < n)
             × ReadsPiece self.old piece.now self.new (Intake.Took n))) }
         ensures none { IfOk result (λ taken. IfNone taken (self.new ≡ self.old)) }
+        ensures line { IfOk result (λ _. (self.new.stage ≡ Line) × (self.new.pending ≡ [])) }
     {
         let room = MAX_BODY - self.body.len();
         let Some((line, octets)) = whole_chunk(piece, room) else {
@@ -142,6 +143,22 @@ impl Reader {
         };
         self.body.extend(octets)?;
         Ok(Some(line.len() + octets.len() + 4))
+    }
+
+    // Takes the chunks at the front that the piece has as a whole, as far as nothing of a line came
+    // before. That there are none says nothing of the piece.
+    fn take_chunks(&mut self, piece: &[u8]) -> Result<usize, NoMemory>
+        requires sound { IsSoundReader self.old }
+        requires stage { self.old.stage ≡ Line }
+        requires bare { self.old.pending ≡ [] }
+        ensures took { IfOk result (λ n. ReadsPiece self.old piece.now self.new (Intake.Took n)) }
+        ensures none { IfOk result (λ n. n ≡ 0 → self.new ≡ self.old) }
+    {
+        let mut at = 0;
+        while let Some(count) = self.take_chunk(&piece[at..])? {
+            at += count;
+        }
+        Ok(at)
     }
 
     // Takes the front of a piece at the line of a chunk.
@@ -155,9 +172,9 @@ impl Reader {
         if !self.pending.is_empty() {
             return self.take_line(piece);
         }
-        match self.take_chunk(piece)? {
-            Some(count) => Ok(Intake::Took(count)),
-            None => self.take_line(piece),
+        match self.take_chunks(piece)? {
+            0 => self.take_line(piece),
+            count => Ok(Intake::Took(count)),
         }
     }
 
