@@ -85,7 +85,8 @@ fn runs_of_steps(rt: HostRuntime) -> Result<(), Fail> {
 #[test]
 fn promise_loop(rt: HostRuntime) -> Result<(), Fail> {
     let alloc = rt.alloc();
-    let script = b"limits 24 1\nstep 1\nlater 10\nchain 11 10 1 -\npromise 11\nlater 10\nchain 11 10 1 -\ndetach 11\nrun 100000\n";
+    let script =
+        b"limits 24 1\nstep 1\nlater 10\nchain 11 10 1 -\npromise 11\nlater 10\nchain 11 10 1 -\ndetach 11\nrun 100000\n";
     let log = log_of(&rt, alloc, script)?;
     let text = log.written.as_slice();
     assert!(&rt; text.starts_with(b"free 1\nrun 2 1 value\nfree 2\nfree 3\n"));
