@@ -7,11 +7,11 @@ ghost use Rattle.http_core.specs.Serving.{IsReadyAfter, Serves, is_idle, Grows};
 ghost use Rattle.http_frames.specs.declared.Phase.TheVariants.{Going};
 
 use crate::read::{Part, RequestRead, open, read_on};
+use crate::ruled::RuledRequest;
 use crate::spare::Spare;
 use crate::text::{push_answer, push_fault};
-use crate::{End, Request, Service};
+use crate::{End, Service};
 use http_frames::Phase;
-use http_heads::rules::persists;
 use kj_base::{Bytes, NoMemory};
 use std::alloc::Global;
 use std::mem;
@@ -51,7 +51,7 @@ pub(crate) enum AfterPiece {
 fn answer<S: Service>(
     alloc: Global,
     service: &mut S,
-    request: &Request,
+    request: &RuledRequest,
     output: &mut Bytes,
 ) -> Result<bool, NoMemory>
     ensures persists { IfOk result (λ goes_on. goes_on ≡ persists request.now.head) }
@@ -59,7 +59,8 @@ fn answer<S: Service>(
     ensures err { OnErr result (output.new ≡ output.old) }
     ensures grows { Grows output.old output.new }
 {
-    let goes_on = persists(&request.head);
+    let goes_on = request.persists();
+    let request = request.request();
     let answer = service.answer(alloc, request)?;
     push_answer(alloc, output, request, &answer, !goes_on)?;
     Ok(goes_on)
@@ -105,7 +106,7 @@ fn serve<S: Service>(
                 if !answer(alloc, service, &request, output)? {
                     return Ok(AfterPiece::Settled(End::Closed));
                 }
-                spare.keep(request);
+                spare.keep(request.into_request());
                 rest = last(rest, left);
                 step = open(alloc, spare, rest)?;
             }

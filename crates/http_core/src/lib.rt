@@ -5,6 +5,7 @@ mod connection;
 mod laws;
 mod message;
 mod read;
+mod ruled;
 mod service;
 mod spare;
 #[cfg(test)]

@@ -6,11 +6,10 @@ ghost use Rattle.http_frames.specs.Progress.{IsFed};
 ghost use Rattle.http_core.specs.Requests.{skip_pairs};
 ghost use Rattle.http_core.specs.Reading.{NoHeadWithin, NoStopWithin, HasStart, phase_of, IsReadyRead, IsReadyOpening, IsReading, ReadsOn, BodyReadsOn, Opens, Begins, TakesSome};
 
-use crate::Request;
+use crate::ruled::{RuledHead, RuledRequest};
 use crate::spare::Spare;
 use http_frames::{Chunks, Frame, Lengths, Phase};
-use http_heads::rules::framing;
-use http_heads::{Framing, Head, HeadFill, MAX_OCTETS, brings_head, fill_head, first_stop};
+use http_heads::{Framing, HeadFill, MAX_OCTETS, brings_head, fill_head, first_stop};
 use kj_base::{Bytes, NoMemory};
 use std::alloc::Global;
 
@@ -24,9 +23,9 @@ pub enum Part {
     /// So many octets of a head that has too many fields.
     Crowded(usize),
     /// Its head, and a part of a body of known length.
-    Sized(Head, Lengths),
+    Sized(RuledHead, Lengths),
     /// Its head, and a part of a body in chunks.
-    Chunked(Head, Chunks),
+    Chunked(RuledHead, Chunks),
 }
 
 /// What a piece did.
@@ -35,7 +34,7 @@ pub enum RequestRead {
     /// The request isn't whole.
     More(Part),
     /// The request is whole, and so many octets of the piece are left behind it.
-    Whole(Request, usize),
+    Whole(RuledRequest, usize),
     /// The octets begin no request: 400 or 501.
     Fault(u16),
 }
@@ -78,7 +77,7 @@ pub fn skip_pairs(bytes: &[u8]) -> &[u8]
 }
 
 // Reads the next octets of a body of known length.
-fn read_sized(head: Head, mut lengths: Lengths, piece: &[u8]) -> Result<RequestRead, NoMemory>
+fn read_sized(head: RuledHead, mut lengths: Lengths, piece: &[u8]) -> Result<RequestRead, NoMemory>
     requires { lengths.phase ≡ Phase.Going }
     ensures ready { IfOk result IsReadyRead }
     ensures steps { IfOk result (λ step. framing_of head ≡ framings.Length lengths.size
@@ -88,14 +87,15 @@ fn read_sized(head: Head, mut lengths: Lengths, piece: &[u8]) -> Result<RequestR
         Frame::More => Ok(RequestRead::More(Part::Sized(head, lengths))),
         Frame::Whole(count) => {
             let body = lengths.body();
-            Ok(RequestRead::Whole(Request { head, body }, piece.len().saturating_sub(count)))
+            let request = head.with_body(body);
+            Ok(RequestRead::Whole(request, piece.len().saturating_sub(count)))
         }
         Frame::Bad => Ok(RequestRead::Fault(400)),
     }
 }
 
 // Reads the next octets of a body in chunks.
-fn read_chunked(head: Head, mut chunks: Chunks, piece: &[u8]) -> Result<RequestRead, NoMemory>
+fn read_chunked(head: RuledHead, mut chunks: Chunks, piece: &[u8]) -> Result<RequestRead, NoMemory>
     requires { chunks.phase ≡ Phase.Going }
     ensures ready { IfOk result IsReadyRead }
     ensures steps { IfOk result (λ step. framing_of head ≡ framings.Chunked → (behind : List ℕ)
@@ -105,7 +105,8 @@ fn read_chunked(head: Head, mut chunks: Chunks, piece: &[u8]) -> Result<RequestR
         Frame::More => Ok(RequestRead::More(Part::Chunked(head, chunks))),
         Frame::Whole(count) => {
             let body = chunks.body();
-            Ok(RequestRead::Whole(Request { head, body }, piece.len().saturating_sub(count)))
+            let request = head.with_body(body);
+            Ok(RequestRead::Whole(request, piece.len().saturating_sub(count)))
         }
         Frame::Bad => Ok(RequestRead::Fault(400)),
     }
@@ -115,16 +116,16 @@ fn read_chunked(head: Head, mut chunks: Chunks, piece: &[u8]) -> Result<RequestR
 fn read_behind(
     alloc: Global,
     spare: &mut Spare,
-    head: Head,
+    head: RuledHead,
     behind: &[u8],
 ) -> Result<RequestRead, NoMemory>
     ensures ready { IfOk result IsReadyRead }
     ensures steps { IfOk result (BodyReadsOn head [] behind.now) }
 {
-    match framing(&head) {
+    match head.framing() {
         Framing::Empty => {
-            let body = spare.take_body(alloc);
-            Ok(RequestRead::Whole(Request { head, body }, behind.len()))
+            let request = head.with_body(spare.take_body(alloc));
+            Ok(RequestRead::Whole(request, behind.len()))
         }
         Framing::Length(size) => {
             read_sized(head, Lengths::new_in(spare.take_body(alloc), size), behind)
@@ -148,7 +149,7 @@ fn read_front(alloc: Global, spare: &mut Spare, bytes: &[u8]) -> Result<Opening,
         HeadFill::Bad => Ok(Opening::Read(RequestRead::Fault(400))),
         HeadFill::Whole(len) => {
             let behind = behind_head(bytes, len);
-            let head = spare.take_head(alloc);
+            let head = RuledHead::new(spare.take_head(alloc));
             let step = read_behind(alloc, spare, head, behind)?;
             Ok(Opening::Read(step))
         }

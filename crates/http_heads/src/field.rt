@@ -1,5 +1,5 @@
 //! Header fields, and the head that they stand in.
-ghost use Rattle.std.specs.Prelude.{◌≡◌, List, ℕ, [], ◌∷◌, ◌++◌, OnOk, OnErr};
+ghost use Rattle.std.specs.Prelude.{◌≡◌, List, ℕ, [], ◌∷◌, ◌++◌, IfOk, OnOk, OnErr};
 
 use kj_base::{Bytes, NoMemory};
 use std::alloc::Global;
@@ -22,6 +22,15 @@ impl Field {
             name: Bytes::new(alloc),
             value: Bytes::new(alloc),
         }
+    }
+
+    // A copy of both.
+    fn of(alloc: Global, name: &[u8], value: &[u8]) -> Result<Field, NoMemory>
+        ensures { IfOk result (λ field. field ≡ record { name = name.now; value = value.now }) }
+    {
+        let name = Bytes::from_slice(alloc, name)?;
+        let value = Bytes::from_slice(alloc, value)?;
+        Ok(Field { name, value })
     }
 
     fn refill(&mut self, name: &[u8], value: &[u8]) -> Result<(), NoMemory>
@@ -112,6 +121,14 @@ impl Fields {
         self.count = 0;
     }
 
+    // Makes room for so many fields in all.
+    pub(crate) fn reserve(&mut self, count: usize) -> Result<(), NoMemory>
+        ensures { self.new ≡ self.old }
+    {
+        self.items.reserve(count.saturating_sub(self.items.len()))?;
+        Ok(())
+    }
+
     // Copies a field behind the others, into memory that is kept where there is some.
     pub(crate) fn append(
         &mut self,
@@ -123,7 +140,8 @@ impl Fields {
         ensures err { OnErr result (self.new ≡ self.old) }
     {
         if self.count == self.items.len() {
-            self.items.push(Field::new(alloc))?;
+            let field = Field::of(alloc, name, value)?;
+            return self.push(field);
         }
         let field = &mut self.items[self.count];
         field.refill(name, value)?;

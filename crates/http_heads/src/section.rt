@@ -24,6 +24,7 @@ pub(crate) fn fill_fields(
     ensures { OnOk result (map name_and_value fields.new ≡ map (header_bytes bytes.now) (take count spans.now)) }
 {
     fields.clear();
+    fields.reserve(count)?;
     for i in 0..count {
         let span = spans[i];
         fields.append(alloc, span.name.of(bytes), span.value.of(bytes))?;

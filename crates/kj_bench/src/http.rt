@@ -1,11 +1,9 @@
 //! What is read: heads and chunked bodies.
 ghost use Rattle.std.specs.Prelude.{◌≡◌, ◌≤◌, ◌*◌, IfOk, length};
-ghost use Rattle.http_frames.specs.Progress.{phase_after};
-ghost use Rattle.http_frames.specs.declared.Phase.TheVariants.{Going};
 
+use crate::bodies::{BodyWay, body_text, read_body};
 use crate::heads::{Way, head_text, read_one};
-use http_frames::{Chunks, Frame, write_chunk};
-use http_heads::{Head, front_of};
+use http_heads::Head;
 use kj_base::{Bytes, NoMemory};
 use std::alloc::Global;
 
@@ -14,8 +12,8 @@ use std::alloc::Global;
 pub(crate) enum Work {
     // A head.
     Head { is_long: bool, way: Way },
-    // A body in chunks of so many octets, in pieces of so many.
-    Body { chunk: usize, piece: usize },
+    // A body in chunks of so many octets.
+    Body { chunk: usize, way: BodyWay },
 }
 
 // What was done in a round.
@@ -42,7 +40,7 @@ pub(crate) fn whole(text: &[u8]) -> Done
 }
 
 // Each work with its word.
-pub(crate) static WORKS: [(&str, Work); 16] = [
+pub(crate) static WORKS: [(&str, Work); 22] = [
     (
         "short-heads-octets",
         Work::Head {
@@ -113,40 +111,88 @@ pub(crate) static WORKS: [(&str, Work); 16] = [
             way: Way::Again,
         },
     ),
-    ("chunks-1-pieces-1", Work::Body { chunk: 1, piece: 1 }),
+    (
+        "chunks-1-octets",
+        Work::Body {
+            chunk: 1,
+            way: BodyWay::Octets,
+        },
+    ),
+    (
+        "chunks-100-octets",
+        Work::Body {
+            chunk: 100,
+            way: BodyWay::Octets,
+        },
+    ),
+    (
+        "chunks-65536-octets",
+        Work::Body {
+            chunk: 65_536,
+            way: BodyWay::Octets,
+        },
+    ),
+    (
+        "chunks-1-lines",
+        Work::Body {
+            chunk: 1,
+            way: BodyWay::Lines,
+        },
+    ),
+    (
+        "chunks-100-lines",
+        Work::Body {
+            chunk: 100,
+            way: BodyWay::Lines,
+        },
+    ),
+    (
+        "chunks-65536-lines",
+        Work::Body {
+            chunk: 65_536,
+            way: BodyWay::Lines,
+        },
+    ),
+    (
+        "chunks-1-pieces-1",
+        Work::Body {
+            chunk: 1,
+            way: BodyWay::Pieces(1),
+        },
+    ),
     (
         "chunks-100-pieces-1",
         Work::Body {
             chunk: 100,
-            piece: 1,
+            way: BodyWay::Pieces(1),
         },
     ),
     (
         "chunks-65536-pieces-1",
         Work::Body {
             chunk: 65_536,
-            piece: 1,
+            way: BodyWay::Pieces(1),
         },
     ),
     (
         "chunks-1-pieces-16384",
         Work::Body {
             chunk: 1,
-            piece: 16_384,
+            way: BodyWay::Pieces(16_384),
         },
     ),
     (
         "chunks-100-pieces-16384",
         Work::Body {
             chunk: 100,
-            piece: 16_384,
+            way: BodyWay::Pieces(16_384),
         },
     ),
     (
         "chunks-65536-pieces-16384",
         Work::Body {
             chunk: 65_536,
-            piece: 16_384,
+            way: BodyWay::Pieces(16_384),
         },
     ),
 ];
@@ -165,51 +211,6 @@ pub(crate) fn named(word: &str) -> Option<Work> {
         }
     }
     None
-}
-
-// A body in chunks, with its last chunk and an empty trailer.
-fn body_text(alloc: Global, chunk: usize, size: usize) -> Result<Bytes, NoMemory> {
-    let mut text = Bytes::new(alloc);
-    let mut data = Bytes::new(alloc);
-    for _ in 0..chunk.min(size) {
-        data.push(b'x')?;
-    }
-    let mut left = size;
-    for _ in 0..size {
-        let piece = front_of(data.as_slice(), left);
-        if piece.is_empty() {
-            break;
-        }
-        write_chunk(alloc, &mut text, piece)?;
-        left = left.saturating_sub(piece.len());
-    }
-    text.extend(b"0\r\n\r\n")?;
-    Ok(text)
-}
-
-// Feeds one piece; the clause says no more than when the next may come.
-fn feed(chunks: &mut Chunks, piece: &[u8]) -> Result<Frame, NoMemory>
-    requires { chunks.old.phase ≡ Going }
-    ensures { IfOk result (λ frame. chunks.new.phase ≡ phase_after frame) }
-{
-    chunks.feed(piece)
-}
-
-fn read_body(alloc: Global, text: &[u8], piece: usize) -> Result<Done, NoMemory>
-    ensures { IfOk result (λ done. (done.items ≤ 1)
-        × (done.octets ≡ done.items * length text.now)) }
-{
-    let mut chunks = Chunks::new(alloc);
-    let mut rest = text;
-    for _ in 0..text.len() {
-        let front = front_of(rest, piece);
-        match feed(&mut chunks, front)? {
-            Frame::More => rest = &rest[front.len()..],
-            Frame::Whole(_) => return Ok(whole(text)),
-            Frame::Bad => break,
-        }
-    }
-    Ok(NOTHING)
 }
 
 // What a work reads.
@@ -233,6 +234,6 @@ pub(crate) fn round(
 {
     match work {
         Work::Head { way, .. } => read_one(alloc, way, head, text),
-        Work::Body { piece, .. } => read_body(alloc, text, piece),
+        Work::Body { way, .. } => read_body(alloc, way, text),
     }
 }

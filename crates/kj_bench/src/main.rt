@@ -3,6 +3,7 @@
 //! long they took.
 #![tactic(auto)]
 
+mod bodies;
 mod executor;
 mod heads;
 mod http;

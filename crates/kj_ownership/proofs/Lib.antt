@@ -37,7 +37,12 @@ pub mod RequestFires
 pub mod Placing
 pub mod ChainFires
 pub mod Turns
+pub mod KeepsRunning
 pub mod Lacks
+pub mod EventLacks
+pub mod TurnLacks
+pub mod WaitLacks
+pub mod Requests
 pub mod Waits
 pub mod Calls
 pub mod Answers

@@ -38,7 +38,7 @@ use Rattle.kj_ownership.proofs.Builders.{source_suits}
 use Rattle.kj_ownership.proofs.Walks.{reached_here}
 use Rattle.kj_ownership.proofs.Applied.{commands_keep}
 use Rattle.kj_ownership.proofs.Turns.{turn_passes, turn_answers}
-use Rattle.kj_ownership.proofs.Lacks.{value_lacks}
+use Rattle.kj_ownership.proofs.Lacks.{value_stops}
 
 -- after a wait nothing is awaited
 pub record IsWaited (t : State) : Type 0 where
@@ -255,7 +255,7 @@ done_is setting None s is fits r runs = record { rests = r; none = is }
 done_is setting (Some a) s is fits r runs =
     let v = value setting a.root s in
     let e = value_keeps setting (depth_of s.world) (commands_keep setting fits) a.root s [] r.owned r.shaped tt (λ live. inr (r.calm, live, subst (λ (o : Option Awaited). is_in a.root (awaited_roots o) ≡ true) (sym is) (in_self a.root []))) in
-    valued_is v.1 v.0 (λ k. value_lacks setting (depth_of s.world) a.root s k) (record { owned = e.owned; shaped = e.shaped; calm = e.same.firing ∙ r.calm; left_over = λ runs2. e.same.left_over ∙ r.left_over runs })
+    valued_is v.1 v.0 (value_stops setting a.root s) (record { owned = e.owned; shaped = e.shaped; calm = e.same.firing ∙ r.calm; left_over = λ runs2. e.same.left_over ∙ r.left_over runs })
 
 -- the turns of a wait
 stops_of : (b : Bool) (t : Turned) → t ≡ turned_by b → (t ≡ Fired → ⊥) → b ≡ true

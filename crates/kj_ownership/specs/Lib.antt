@@ -5,3 +5,5 @@ pub mod Shapes
 pub mod Fits
 pub mod Kept
 pub mod Firing
+pub mod Requests
+pub mod Memory

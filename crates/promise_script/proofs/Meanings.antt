@@ -197,7 +197,7 @@ said_from read F T f word ps m sound fits text e =
     let here : Said (word ∷ ps) (f g.0) = (fits g.0 s.0, ap (λ (xs : List (List ℕ)). word ∷ xs) s.1 ∙ text g.0) in
     subst (λ (d : Meaning). Said (word ∷ ps) d) g.2 here
 
-then_some : {A B : Type 0} (f : A → Option B) (o : Option A) (y : B) → and_then f o ≡ Some y → (x : A) × (o ≡ Some x) × (f x ≡ Some y)
+pub then_some : {A B : Type 0} (f : A → Option B) (o : Option A) (y : B) → and_then f o ≡ Some y → (x : A) × (o ≡ Some x) × (f x ≡ Some y)
 then_some f None y e = absurd (cc (e))
 then_some f (Some x) y e = (x, refl, e)
 

@@ -2,6 +2,9 @@
 -- finds it, and the proofs tie the two.
 use Rattle.std.specs.Prelude.{ℕ, ◌^◌, ◌&&◌, ◌%◌, ◌==◌, List, [], ◌∷◌, Option, None, Some, Bool, cond, codes, decimal, bytes_eq, length, nat_lt, nat_le}
 use Rattle.std.specs.Str.Parse.{digits_value}
+use Rattle.kj_base.specs.declared.limits.TheConstants.{MAX_SLOTS, MAX_NAMES}
+use Rattle.promise_commands.specs.declared.sources.TheConstants.{MAX_PARTS}
+use Rattle.promise_script.specs.declared.meaning.TheConstants.{MAX_WORDS, MAX_TURNS, SLOTS_STEP}
 use Rattle.kj_base.specs.declared.numbers.StepId.{StepId}
 use Rattle.kj_base.specs.declared.numbers.Name.{Name}
 use Rattle.kj_base.specs.declared.numbers.Limits.{Limits}
@@ -72,10 +75,10 @@ abbrev pub few_read : {A : Type 0} → ℕ → (List ℕ → Option A) → List 
 few_read most f ps = cond (nat_lt most (length ps)) None (all_read f ps)
 
 abbrev pub words_read : List (List ℕ) → Option (List ℕ)
-words_read ps = few_read 16 (number_read (2 ^ 64)) ps
+words_read ps = few_read MAX_WORDS (number_read (2 ^ 64)) ps
 
 abbrev pub names_read : List (List ℕ) → Option (List Name)
-names_read ps = few_read 8 name_read ps
+names_read ps = few_read MAX_PARTS name_read ps
 
 abbrev pub to_exception : Kind × ℕ → Exception
 to_exception p = record { kind = p.0; code = p.1 }
@@ -178,7 +181,7 @@ used_by DetachWord ps = given Detach (one_name ps)
 -- ---- lines
 
 abbrev pub limits_fit : ℕ → ℕ → Bool
-limits_fit slots names = nat_le 8 slots && nat_le slots 4194304 && (slots % 8 == 0) && nat_le 1 names && nat_le names 1048576
+limits_fit slots names = nat_le SLOTS_STEP slots && nat_le slots MAX_SLOTS && (slots % SLOTS_STEP == 0) && nat_le 1 names && nat_le names MAX_NAMES
 
 abbrev pub limits_of : ℕ × ℕ → Option Limits
 limits_of p = cond (limits_fit p.0 p.1) (Some (record { slots = p.0; names = p.1 })) None
@@ -200,7 +203,7 @@ one_number (n ∷ []) = number_read (2 ^ 32) n
 one_number (n ∷ x ∷ ps) = None
 
 abbrev pub turns_read : List (List ℕ) → Option ℕ
-turns_read ps = and_then (λ n. cond (nat_lt 1000000 n) None (Some n)) (one_number ps)
+turns_read ps = and_then (λ n. cond (nat_lt MAX_TURNS n) None (Some n)) (one_number ps)
 
 abbrev pub bare : Meaning → List (List ℕ) → Option Meaning
 bare meaning [] = Some meaning

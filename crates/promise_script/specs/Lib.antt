@@ -1,2 +1,4 @@
 pub mod ScriptText
 pub mod Decode
+pub mod Assembly
+pub mod Scripts

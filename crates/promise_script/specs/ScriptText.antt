@@ -1,6 +1,9 @@
--- The text of scripts: what each line means.
-use Rattle.std.specs.Prelude.{◌≡◌, ℕ, ◌<◌, ◌≤◌, ◌^◌, ◌==◌, ◌%◌, List, [], ◌∷◌, Option, None, Some, Bool, true, codes, decimal, length, map}
-use Rattle.std.specs.List.{slice_split, All as EachOf}
+-- The text of scripts: what each line means, and the lines of a text.
+use Rattle.std.specs.Prelude.{◌≡◌, ℕ, ◌<◌, ◌≤◌, ◌^◌, ◌==◌, ◌%◌, List, [], ◌∷◌, Option, None, Some, Bool, true, cond, codes, decimal, length, map, take}
+use Rattle.std.specs.List.{slice_split, onto_first, position, All as EachOf}
+use Rattle.kj_base.specs.declared.limits.TheConstants.{MAX_SLOTS, MAX_NAMES}
+use Rattle.promise_commands.specs.declared.sources.TheConstants.{MAX_PARTS}
+use Rattle.promise_script.specs.declared.meaning.TheConstants.{MAX_WORDS, MAX_TURNS, SLOTS_STEP}
 use Rattle.kj_base.specs.declared.numbers.StepId.{StepId}
 use Rattle.kj_base.specs.declared.numbers.Name.{Name}
 use Rattle.kj_base.specs.declared.numbers.Limits.{Limits}
@@ -75,10 +78,10 @@ StepFits None = Unit {0}
 StepFits (Some step) = step.0 < 2 ^ 32
 
 abbrev pub WordsFit : List ℕ → Type 0
-WordsFit words = (length words ≤ 16) × EachOf (λ w. w < 2 ^ 64) words
+WordsFit words = (length words ≤ MAX_WORDS) × EachOf (λ w. w < 2 ^ 64) words
 
 abbrev pub NamesFit : List Name → Type 0
-NamesFit names = (length names ≤ 8) × EachOf NameFits names
+NamesFit names = (length names ≤ MAX_PARTS) × EachOf NameFits names
 
 abbrev pub CommandFits : Command → Type 0
 CommandFits (Now name value) = NameFits name × WordsFit value
@@ -105,16 +108,16 @@ EndingFits (Throw exception) = exception.code < 2 ^ 32
 EndingFits (Promise name) = NameFits name
 EndingFits Input = Unit {0}
 
--- slots by eights, and at least one name
+-- slots by whole steps, and at least one name
 abbrev pub LimitsFit : Limits → Type 0
-LimitsFit limits = (8 ≤ limits.slots) × (limits.slots ≤ 4194304) × (limits.slots % 8 ≡ 0) × (1 ≤ limits.names) × (limits.names ≤ 1048576)
+LimitsFit limits = (SLOTS_STEP ≤ limits.slots) × (limits.slots ≤ MAX_SLOTS) × (limits.slots % SLOTS_STEP ≡ 0) × (1 ≤ limits.names) × (limits.names ≤ MAX_NAMES)
 
 abbrev pub MeaningFits : Meaning → Type 0
 MeaningFits Nothing = Unit {0}
 MeaningFits (LimitsLine limits) = LimitsFit limits
 MeaningFits (Do command) = CommandFits command
 MeaningFits Turn = Unit {0}
-MeaningFits (Run turns) = turns ≤ 1000000
+MeaningFits (Run turns) = turns ≤ MAX_TURNS
 MeaningFits (Step step) = step.0 < 2 ^ 32
 MeaningFits (Close ending) = EndingFits ending
 
@@ -123,6 +126,20 @@ MeaningFits (Close ending) = EndingFits ending
 -- what stands between spaces
 abbrev pub words_of : List ℕ → List (List ℕ)
 words_of text = slice_split (λ c. c == 32) text
+
+-- a text as lines that end with LF, the last of which may end with the text
+abbrev pub lines_of : List ℕ → List (List ℕ)
+lines_of [] = []
+lines_of (c ∷ cs) = cond (c == 10) ([] ∷ lines_of cs) (onto_first c (lines_of cs))
+
+-- the octets before this place, or all
+abbrev pub front_of : Option ℕ → List ℕ → List ℕ
+front_of None text = text
+front_of (Some place) text = take place text
+
+-- the octets up to the first space, or all
+abbrev pub first_word : List ℕ → List ℕ
+first_word text = front_of (position (λ c. c == 32) text) text
 
 -- an empty line, or one that begins with `#`
 abbrev pub is_remark : List ℕ → Bool

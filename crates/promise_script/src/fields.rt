@@ -2,11 +2,9 @@
 ghost use Rattle.std.specs.Prelude.{◌≡◌, ◌^◌, map};
 ghost use Rattle.promise_script.specs.Decode.{number_read, name_read, step_read, kind_read, words_read, names_read};
 
+use crate::meaning::MAX_WORDS;
 use kj_base::{Kind, Name, StepId, Words, read_decimal};
 use promise_commands::{MAX_PARTS, Sources};
-
-/// The most words that a value has.
-const MAX_WORDS: usize = 16;
 
 /// A number below 2^32 in decimal digits, without leading zeros.
 pub fn read_number(word: &[u8]) -> Option<u32>

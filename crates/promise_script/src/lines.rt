@@ -7,7 +7,7 @@ ghost use Rattle.promise_script.specs.Decode.{bare, limits_fit, limits_read, one
 
 use crate::commands::{read_combined, read_made, read_used};
 use crate::fields::{read_number, read_words};
-use crate::meaning::Meaning;
+use crate::meaning::{MAX_TURNS, Meaning, SLOTS_STEP};
 use crate::parts::{read_exception, read_one_name};
 use crate::verbs::{Verb, read_verb};
 use kj_base::{Ending, Limits, MAX_NAMES, MAX_SLOTS, NoMemory, StepId};
@@ -15,12 +15,6 @@ use std::alloc::{AllocError, Global};
 
 /// The most spaces in a line that means something and is no remark: those of a name and 16 words behind the first word.
 const MOST_SPACES: usize = 17;
-
-/// The fewest slots that a loop may have. Their number is a multiple of it.
-const SLOTS_STEP: u32 = 8;
-
-/// The most turns of one line.
-const MAX_TURNS: u32 = 1_000_000;
 
 // Whether a loop may have these limits.
 fn limits_fit(slots: u32, names: u32) -> bool

@@ -2,6 +2,18 @@
 use kj_base::{Ending, Limits, StepId};
 use promise_commands::Command;
 
+/// The most words that a value has.
+pub const MAX_WORDS: usize = 16;
+
+/// The most commands that a body has.
+pub const MAX_COMMANDS: usize = 16;
+
+/// The most turns of one line.
+pub const MAX_TURNS: u32 = 1_000_000;
+
+/// The fewest slots that a loop may have. Their number is a multiple of it.
+pub const SLOTS_STEP: u32 = 8;
+
 /// What one line of a script means.
 #[derive(Drop)]
 pub enum Meaning {

@@ -1,6 +1,7 @@
 -- One part of what is done after another.
 use Rattle.std.proofs.Common.{◌≡◌, ◌∙◌, sym, ap, subst, refl, ℕ, List, [], ◌++◌, Option, None, Some, true, append_assoc}
 use Rattle.std.proofs.lemmas.List.{append-nil}
+use Rattle.std.proofs.lemmas.Bool.{false≢true}
 use Rattle.kj_base.specs.Counts.{HasLacked}
 use Rattle.kj_base.specs.Record.{Item, Tells}
 use Rattle.kj_model.specs.World.{World, State, Setting}
@@ -37,14 +38,16 @@ acts_then {X} Old Mid New P rule From valued x change f xs ys a b c k l m told t
         past_is = q.past_is ∙ ap (λ (l : List Item). l ++ ys) r.past_is ∙ append_assoc s.past xs ys;
         ends = q.ends ∙ ap (f setting) here ∙ same setting s old from given;
       };
+  stops = λ answer s old from agrees lacking some. absurd (false≢true some);
 }
 
 -- an evaluation that found no memory, and nothing more
 pub acts_lacking : {X : Type 0} (Old New : World → Type 0) (rule : Rule) (From : Setting → State → Type 0) (valued : Setting → State → Valued X) (change : Setting → State → State) (xs : List Item) (a b : Option (List Item)) (k l : ℕ)
     → Tells a xs b → HasLacked true k l → Lacks Old New rule valued xs
+    → ((setting : Setting) (s : State) → (valued setting s).1 ≡ None → (valued setting s).0.world.stopped ≡ true)
     → ((setting : Setting) (s : State) → Old s.world → From setting s → (valued setting s).1 ≡ None → (valued setting s).0 ≡ change setting s)
     → Acts Old New rule From change (λ s. s) a b k l
-acts_lacking {X} Old New rule From valued change xs a b k l told rose lacks same = record {
+acts_lacking {X} Old New rule From valued change xs a b k l told rose lacks stops same = record {
   items = xs;
   missing = Some lacks.step;
   told = told;
@@ -59,6 +62,9 @@ acts_lacking {X} Old New rule From valued change xs a b k l told rose lacks same
         past_is = r.past_is;
         ends = ap (λ (v : Valued X). v.0) r.ends ∙ same setting s old from given;
       };
+  stops = λ answer s old from agrees missing some.
+      let r = lacks.moves answer s old agrees missing in
+      ap (λ (v : Valued X). v.0.world.stopped) r.ends ∙ stops (setting_of rule answer) s (sym (ap (λ (v : Valued X). v.1) r.ends));
 }
 
 -- a change that asks for no answer
@@ -76,6 +82,7 @@ acts_once Old New P rule From change f ys a b k l told still moves holds same = 
       let setting : Setting = setting_of rule answer in
       let q = moves s (old, holds setting s old from) in
       record { state = q.state; stands = q.stands; past_is = q.past_is; ends = q.ends ∙ same setting s old from };
+  stops = λ answer s old from agrees lacking some. absurd (false≢true some);
 }
 
 -- nothing is told
@@ -90,6 +97,7 @@ acts_silent Old New rule From change view g a k same = record {
   goes = λ answer s old from agrees missing.
       let q = same (setting_of rule answer) s old from in
       record { state = silent g s; stands = q.0; past_is = sym (append-nil s.past); ends = q.1 };
+  stops = λ answer s old from agrees lacking some. absurd (false≢true some);
 }
 
 -- of fewer states
@@ -102,15 +110,17 @@ acts_less Old New rule From Less change view a b k l less d = record {
   told = d.told;
   lacks = d.lacks;
   goes = λ answer s old from agrees missing. d.goes answer s old (less (setting_of rule answer) s old from) agrees missing;
+  stops = λ answer s old from agrees missing some. d.stops answer s old (less (setting_of rule answer) s old from) agrees missing some;
 }
 
 -- and then a change that isn't told
 pub acts_after : {E : Type 0} (Old Then New : World → Type 0) (rule : Rule) (From : Setting → State → Type 0) (change : Setting → State → State) (whole : Setting → State → E) (view : State → E) (h : World → World) (a b : Option (List Item)) (k l : ℕ)
     → Acts Old Then rule From change (λ s. s) a b k l
     → ((w : World) → Then w → New (h w))
+    → ((w : World) → (h w).stopped ≡ w.stopped)
     → ((setting : Setting) (s : State) → New (h (change setting s).world) → view (silent h (change setting s)) ≡ whole setting s)
     → Acts Old New rule From whole view a b k l
-acts_after Old Then New rule From change whole view h a b k l d ends same = record {
+acts_after Old Then New rule From change whole view h a b k l d ends runs same = record {
   items = d.items;
   missing = d.missing;
   told = d.told;
@@ -124,6 +134,7 @@ acts_after Old Then New rule From change whole view h a b k l d ends same = reco
         past_is = r.past_is;
         ends = ap (λ (t : State). view (silent h t)) r.ends ∙ same setting s (subst (λ (t : State). New (h t.world)) r.ends (ends r.state.world r.stands));
       };
+  stops = λ answer s old from agrees missing some. runs (d.goes answer s old from agrees missing).state.world ∙ d.stops answer s old from agrees missing some;
 }
 
 -- and before that one that isn't told
@@ -142,4 +153,5 @@ acts_before Old Mid New rule From Fires change whole view g a b k l d begins sam
       let p = same setting s old from in
       let r = d.goes answer (silent g s) (begins s.world old) p.0 agrees missing in
       record { state = r.state; stands = r.stands; past_is = r.past_is; ends = r.ends ∙ p.1 };
+  stops = λ answer s old from agrees missing some. d.stops answer (silent g s) (begins s.world old) (same (setting_of rule answer) s old from).0 agrees missing some;
 }

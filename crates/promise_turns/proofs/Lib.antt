@@ -1,4 +1,6 @@
 pub mod Acted
+pub mod Answering
 pub mod Outliving
 pub mod Sided
 pub mod Taken
+pub mod Tied

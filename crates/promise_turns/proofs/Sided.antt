@@ -1,9 +1,10 @@
 -- The Side of a race or a join, under its owner.
-use Rattle.std.proofs.Common.{◌≡◌, ◌∙◌, sym, ap, refl, ℕ, List, [], ◌∷◌, Option, Some, Bool, true, false}
+use Rattle.std.proofs.Common.{◌≡◌, ◌∙◌, sym, ap, refl, ℕ, List, [], ◌∷◌, Option, None, Some, Bool, true, false}
 use Rattle.kj_base.specs.declared.outcomes.Outcome.{Outcome}
 use Rattle.kj_base.specs.declared.nodes.Link.{Link}
+use Rattle.kj_base.specs.declared.numbers.NodeId.{NodeId}
 use Rattle.kj_base.specs.Queue.{DepthFirst}
-use Rattle.kj_model.specs.Nodes.{Form, Entry, Side, Fired, Join, form_at, parts_found}
+use Rattle.kj_model.specs.Nodes.{Form, Entry, Side, Fired, Race, Join, form_at, parts_found}
 use Rattle.kj_model.specs.World.{World, State, Setting}
 use Rattle.kj_model.specs.Changes.{put}
 use Rattle.kj_model.specs.Listening.{join_ready}
@@ -11,6 +12,10 @@ use Rattle.kj_model.specs.Value.{value}
 use Rattle.kj_model.specs.Fire.{all_fired, announced_if, fast_announced, fire_form, kept_then, side_fired_by, side_fired_under}
 use Rattle.kj_ownership.specs.Owners.{owns}
 use Rattle.promise_nodes.specs.Kept.{SameNames}
+use Rattle.promise_nodes.specs.Shown.{next_number, node_number}
+use Rattle.promise_firing.specs.declared.owners.Joined.{Joined}
+use Rattle.promise_firing.specs.declared.owners.Above.TheVariants.{Race as UnderRace, Join as UnderJoin}
+use Rattle.promise_firing.specs.Stages.{IsOwner, sides_of}
 use Rattle.promise_firing.proofs.Same.{announced_names, names_then}
 use Rattle.promise_turns.specs.Events.{FromUnder, fired}
 use Rattle.promise_turns.proofs.Outliving.{owner_found}
@@ -19,6 +24,18 @@ use Rattle.promise_turns.proofs.Outliving.{owner_found}
 pub side_fired_is : (tree : Link) (n owner : ℕ) (form : Form) (setting : Setting) (s : State) → FromUnder tree owner form n setting s → fired n setting s ≡ side_fired_under setting owner form n tree.number.0 s
 side_fired_is tree n owner form setting s from =
     ap (λ (o : Option Form). fire_form setting n o s) from.0.2 ∙ ap (λ (o : Option Entry). side_fired_by setting o n tree.number.0 s) from.1
+
+-- the owner that was found
+entry_found : (e : Entry) (number : ℕ) (form : Form) → e.number ≡ number → e.form ≡ form → e ≡ record { number = number; form = form }
+entry_found e number form a b = ap (λ (m : ℕ). record { number = m; form = e.form }) a ∙ ap (λ (f : Form). record { number = number; form = f }) b
+
+pub race_found : (race left : Link) (winner : Option NodeId) (o : Option Entry) → IsOwner (UnderRace race left winner) o → o ≡ Some (record { number = race.number.0; form = Race left.number.0 (next_number left.number.0) (node_number winner) })
+race_found race left winner None e = cc
+race_found race left winner (Some owner) e = ap Some (entry_found owner race.number.0 (Race left.number.0 (next_number left.number.0) (node_number winner)) e.0 e.1)
+
+pub join_found : (joined : Joined) (fast is : Bool) (o : Option Entry) → is ≡ fast → IsOwner (UnderJoin joined is) o → o ≡ Some (record { number = joined.join.number.0; form = Join fast (sides_of joined) })
+join_found joined fast is None same e = cc
+join_found joined fast is (Some owner) same e = ap Some (entry_found owner joined.join.number.0 (Join fast (sides_of joined)) e.0 (e.1 ∙ ap (λ (b : Bool). Join b (sides_of joined)) same))
 
 -- the owner has that form, and owns it
 pub owner_is : (tree : Link) (n owner : ℕ) (form : Form) (setting : Setting) (s : State) → FromUnder tree owner form n setting s → (form_at owner s.world.nodes ≡ Some form) × (owns owner n s.world.nodes ≡ true)

@@ -36,6 +36,6 @@ idle_is setting s runs head = turns_by None setting s runs head
 -- the first event is taken, fires and ends
 pub taken_is : (n : ℕ) (setting : Setting) (s : State) → MayTurn setting s → s.world.stopped ≡ false → head_of s.world.queue ≡ Some n → FromTaken n setting (silent (event_taken (Some n)) s) × (turned_at n setting (silent (event_taken (Some n)) s) ≡ turn setting s)
 taken_is n setting s may runs head = (
-  (may.0, λ positive. takes_event n s may.1 runs head positive, zero_is_none s may.1.owned.recorded, may.2 n head),
+  (may.0, λ positive. takes_event n s may.1 runs head positive, zero_is_none s may.1.owned.recorded, may.2 runs n head),
   sym (turns_by (Some n) setting s runs head),
 )

@@ -1,5 +1,5 @@
 -- What is done while steps may find no memory, against the definitions.
-use Rattle.std.specs.Prelude.{◌≡◌, ℕ, List, ◌++◌, Option, None, Some, is_some}
+use Rattle.std.specs.Prelude.{◌≡◌, ℕ, List, ◌++◌, Option, None, Some, true, is_some}
 use Rattle.kj_base.specs.Counts.{HasLacked}
 use Rattle.kj_base.specs.Record.{Item, Tells}
 use Rattle.kj_model.specs.World.{World, State, Setting}
@@ -19,3 +19,5 @@ pub record Acts {E : Type 0} (Old New : World → Type 0) (rule : Rule) (From : 
   pub told : Tells told_before items told_after
   pub lacks : HasLacked (is_some missing) lacks_before lacks_after
   pub goes : (answer : Answer) (s : State) → Old s.world → From (setting_of rule answer) s → Agrees answer s.past items → IsMissing answer (s.past ++ items) missing → Moved New (change (setting_of rule answer) s) view (s.past ++ items)
+  -- and where a step found no memory the loop is stopped
+  pub stops : (answer : Answer) (s : State) (old : Old s.world) (from : From (setting_of rule answer) s) (agrees : Agrees answer s.past items) (lacking : IsMissing answer (s.past ++ items) missing) → is_some missing ≡ true → (goes answer s old from agrees lacking).state.world.stopped ≡ true

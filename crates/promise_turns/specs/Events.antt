@@ -1,20 +1,16 @@
 -- What an event does, by the form of its node.
-use Rattle.std.specs.Prelude.{◌≡◌, ◌<◌, ℕ, [], ◌∷◌, Option, None, Some, Bool, true, false}
+use Rattle.std.specs.Prelude.{◌≡◌, ◌<◌, ℕ, [], ◌∷◌, Option, None, Some, true, false}
 use Rattle.kj_base.specs.declared.nodes.Link.{Link}
 use Rattle.kj_base.specs.Queue.{DepthFirst}
-use Rattle.kj_model.specs.Nodes.{Form, Tree, Waits, Chain, Side, Task, Request, form_at, owner_of, parts_found}
+use Rattle.kj_model.specs.Nodes.{Form, Tree, Waits, Chain, Side, Task, form_at, owner_of, parts_found}
 use Rattle.kj_model.specs.World.{World, State, Setting}
 use Rattle.kj_model.specs.Listening.{announced}
 use Rattle.kj_model.specs.Fire.{branches_announced, fire_form, kept_from}
 use Rattle.kj_ownership.specs.Firing.{IsFiring}
 use Rattle.kj_ownership.specs.Fits.{Fits}
+use Rattle.kj_ownership.specs.Requests.{is_request}
 use Rattle.promise_turns.specs.declared.looks.Event.{Event}
 use Rattle.promise_turns.specs.declared.looks.Event.TheVariants.{Takes, Keeps, Shares, Waits as SideWaits, Ends, Requests, Nothing}
-
--- the Request of another loop
-abbrev pub is_request : Option Form → Bool
-is_request (Some (Request name tree)) = true
-is_request other = false
 
 -- a node that owns this tree evaluates it and keeps the outcome; then those are armed who listen to these
 pub record KeepsTree (after : ℕ → World → World) (tree : ℕ) (o : Option Form) : Type 0 where

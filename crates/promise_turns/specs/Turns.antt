@@ -1,16 +1,15 @@
 -- What turns answer, against the definitions.
-use Rattle.std.specs.Prelude.{◌≡◌, ℕ, Some, false}
-use Rattle.kj_base.specs.Queue.{head_of}
-use Rattle.kj_model.specs.Nodes.{form_at}
-use Rattle.kj_model.specs.World.{World, State, Setting}
+use Rattle.std.specs.Prelude.{◌≡◌, ℕ, Bool, true, false}
+use Rattle.kj_model.specs.World.{State, Setting}
 use Rattle.kj_model.specs.Changes.{silent}
 use Rattle.kj_model.specs.Calls.{Turned, Fired, Idle, NoMemory, Stopped, after_turn}
 use Rattle.kj_ownership.specs.Fits.{Fits}
 use Rattle.kj_ownership.specs.Kept.{Rests}
+use Rattle.kj_ownership.specs.Requests.{FiresNoRequest}
 use Rattle.promise_turns.specs.declared.turned.Turned.{Turned as TurnedCase}
 use Rattle.promise_turns.specs.declared.turned.Turned.TheVariants.{Fired as FiredCase, Idle as IdleCase, NoMemory as NoMemoryCase, Stopped as StoppedCase}
 use Rattle.promise_firing.specs.Events.{event_ended}
-use Rattle.promise_turns.specs.Events.{fired, is_request}
+use Rattle.promise_turns.specs.Events.{fired}
 
 -- the answer that each variant is
 abbrev pub turned_of : TurnedCase → Turned
@@ -18,6 +17,11 @@ turned_of FiredCase = Fired
 turned_of IdleCase = Idle
 turned_of NoMemoryCase = NoMemory
 turned_of StoppedCase = Stopped
+
+-- whether a step of this turn found no memory
+abbrev pub lacked_memory : TurnedCase → Bool
+lacked_memory NoMemoryCase = true
+lacked_memory other = false
 
 -- a state with this answer
 abbrev pub turned_as : TurnedCase → State → State × Turned
@@ -27,10 +31,7 @@ turned_as turned s = (s, turned_of turned)
 abbrev pub turned_at : ℕ → Setting → State → State × Turned
 turned_at n setting s = after_turn (silent event_ended (fired n setting s))
 
--- the event that comes first is no Request's
-abbrev pub FiresNoRequest : World → Type 0
-FiresNoRequest w = (n : ℕ) → head_of w.queue ≡ Some n → is_request (form_at n w.nodes) ≡ false
-
--- between two turns, over a store that takes no more nodes than it has slots
+-- between two turns, over a store that takes no more nodes than it has slots; where the loop runs, its first event is no
+-- Request's
 abbrev pub MayTurn : Setting → State → Type 0
-MayTurn setting s = Fits setting × Rests s × FiresNoRequest s.world
+MayTurn setting s = Fits setting × Rests s × (s.world.stopped ≡ false → FiresNoRequest s.world)

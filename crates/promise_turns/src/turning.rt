@@ -1,15 +1,17 @@
 //! Turns.
-ghost use Rattle.std.specs.Prelude.{◌≡◌, []};
+ghost use Rattle.std.specs.Prelude.{◌≡◌, [], false};
+ghost use Rattle.kj_base.specs.Counts.{HasLacked};
 ghost use Rattle.kj_base.specs.Queue.{head_of};
-ghost use Rattle.kj_model.specs.World.{World};
+ghost use Rattle.kj_model.specs.World.{State, World};
 ghost use Rattle.kj_model.specs.Calls.{turn};
 ghost use Rattle.promise_nodes.specs.Kept.{OnlyRises};
 ghost use Rattle.promise_nodes.specs.Shown.{link_number};
 ghost use Rattle.promise_walks.specs.Walks.{Both};
+ghost use Rattle.promise_walks.specs.Values.{Answer, setting_of};
 ghost use Rattle.promise_firing.specs.Events.{event_ended, event_taken};
 ghost use Rattle.promise_turns.specs.Acting.{Acts};
 ghost use Rattle.promise_turns.specs.Events.{FromTaken};
-ghost use Rattle.promise_turns.specs.Turns.{MayTurn, turned_as, turned_at};
+ghost use Rattle.promise_turns.specs.Turns.{MayTurn, lacked_memory, turned_as, turned_at};
 
 use crate::firing::fire;
 use crate::turned::Turned;
@@ -55,6 +57,10 @@ fn turn_at<N: Nodes + Drop, M: Names + Drop, S: Steps>(
 ) -> Turned
     requires none_over { M.over over.old.names ≡ [] }
     ensures turns { Acts (Both (N.stands over.old.nodes) (M.stands over.old.names)) (Both (N.stands over.new.nodes) (M.stands over.new.names)) N.rule (FromTaken event.number.0) (turned_at event.number.0) (turned_as result) (S.told steps.old) (S.told steps.new) (S.lacks steps.old) (S.lacks steps.new) }
+    ensures memory { (answer : Answer) (s : State)
+        → Both (N.stands over.old.nodes) (M.stands over.old.names) s.world
+        → FromTaken event.number.0 (setting_of N.rule answer) s → s.world.stopped ≡ false
+        → HasLacked (lacked_memory result) (S.lacks steps.old) (S.lacks steps.new) }
     ensures plain { OnlyRises (N.is_plain over.old.nodes) (N.is_plain over.new.nodes) }
     ensures slots { N.slots over.new.nodes ≡ N.slots over.old.nodes }
     ensures over { M.over over.new.names ≡ M.over over.old.names }
@@ -68,14 +74,19 @@ fn turn_at<N: Nodes + Drop, M: Names + Drop, S: Steps>(
 }
 
 /// One turn of the loop (kj/async.h, `EventLoop::turn`): the first event of the queue is taken and fires, and what it
-/// arms depth-first goes before all others. A step that finds no memory stops the loop. Between two turns nothing is
-/// left over. No keeper has lists of ended requests yet, so the contract speaks of turns whose event is no Request's.
+/// arms depth-first goes before all others. A step that finds no memory stops the loop, and only then the answer is
+/// `NoMemory`. Between two turns nothing is left over. No keeper has lists of ended requests yet, so the contract
+/// speaks of turns whose event is no Request's where the loop runs.
 pub fn turn<N: Nodes + Drop, M: Names + Drop, S: Steps>(
     over: &mut Evaluator<N, M>,
     steps: &mut S,
 ) -> Turned
     requires none_over { M.over over.old.names ≡ [] }
     ensures turns { Acts (Both (N.stands over.old.nodes) (M.stands over.old.names)) (Both (N.stands over.new.nodes) (M.stands over.new.names)) N.rule MayTurn turn (turned_as result) (S.told steps.old) (S.told steps.new) (S.lacks steps.old) (S.lacks steps.new) }
+    ensures memory { (answer : Answer) (s : State)
+        → Both (N.stands over.old.nodes) (M.stands over.old.names) s.world
+        → MayTurn (setting_of N.rule answer) s
+        → HasLacked (lacked_memory result) (S.lacks steps.old) (S.lacks steps.new) }
     ensures plain { OnlyRises (N.is_plain over.old.nodes) (N.is_plain over.new.nodes) }
     ensures slots { N.slots over.new.nodes ≡ N.slots over.old.nodes }
     ensures over { M.over over.new.names ≡ [] }

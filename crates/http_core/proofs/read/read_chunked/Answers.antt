@@ -1,5 +1,8 @@
 use Rattle.std.proofs.Common.{ℕ, List, ◌++◌, [], take, refl, arith, inr, subst, sym}
 use Rattle.http_frames.specs.declared.Frame.TheVariants.{More, Whole, Bad}
+use Rattle.http_core.specs.declared.message.Request.{Request}
+use Rattle.http_core.specs.declared.read.RequestRead.TheVariants as reads
+use Rattle.http_core.specs.Reading.{BodyReadsOn}
 use Rattle.http_frames.specs.Chunks.{Body}
 use Rattle.http_core.proofs.RequestLemmas.{chunked_whole}
 use Rattle.http_core.proofs.ReadLemmas.{answers_as}
@@ -16,6 +19,7 @@ returns-in-Whole-clause-steps c framing behind fed =
     let new = c.feed.new.self in
     let a = answers_as behind piece new _ (Whole count) c.in-Whole.is (c.in_ok-feed.ensures.answer behind fed) in
     let body : Body (behind ++ take count piece) c.body-body.result new.trailer [] = subst (λ (b : List ℕ). Body (behind ++ take count piece) b new.trailer []) (sym c.body-body.ensures) a.2 in
+    subst (λ (r : Request). BodyReadsOn c.args.head behind piece (reads.Whole r c.saturating_sub.result)) (sym c.with_body-request.ensures)
     (refl, omega (arith, c.saturating_sub.ensures), chunked_whole c.args.head behind piece c.body-body.result new.trailer count c.saturating_sub.result framing a.1 c.saturating_sub.ensures body)
 
 pub returns-in-Bad-clause-steps : goal.returns-in-Bad-clause-steps

@@ -1,4 +1,4 @@
-use Rattle.std.proofs.Common.{subst, sym}
+use Rattle.std.proofs.Common.{subst, sym, ◌∙◌}
 use Rattle.http_heads.specs.declared.field.Head.{Head}
 use Rattle.http_heads.specs.Heads.{StartsWithHead}
 use Rattle.http_heads.specs.declared.HeadFill.TheVariants.{Whole, More, Crowded, Bad}
@@ -21,5 +21,5 @@ returns-in-Bad-clause-opens c from within some = never_head_is_fault c.args.byte
 
 pub returns-in_ok-step-in-Whole-clause-opens : goal.returns-in_ok-step-in-Whole-clause-opens
 returns-in_ok-step-in-Whole-clause-opens c from within =
-    begins_whole from c.args.bytes.now c.behind_head-behind.result.now c.take_head-head.result c.in-Whole.len c.in_ok-step-in-Whole.step c.behind_head-behind.ensures
-    (subst (λ (h : Head). StartsWithHead c.args.bytes.now h c.in-Whole.len) (sym c.take_head-head.ensures) (reads_as c.args.bytes.now _ _ (Whole c.in-Whole.len) c.in-Whole.is c.in_ok-fill_head.ensures.reads)) within c.in_ok-step-in-Whole.ensures.steps
+    begins_whole from c.args.bytes.now c.behind_head-behind.result.now c.new-head.result c.in-Whole.len c.in_ok-step-in-Whole.step c.behind_head-behind.ensures
+    (subst (λ (h : Head). StartsWithHead c.args.bytes.now h c.in-Whole.len) (sym (c.new-head.ensures ∙ c.take_head.ensures)) (reads_as c.args.bytes.now _ _ (Whole c.in-Whole.len) c.in-Whole.is c.in_ok-fill_head.ensures.reads)) within c.in_ok-step-in-Whole.ensures.steps

@@ -3,6 +3,7 @@ use Rattle.kj_model.specs.Nodes.{Form, Chain, form_at}
 use Rattle.kj_model.specs.World.{World, State, Setting}
 use Rattle.kj_model.specs.Value.{Given, value_link}
 use Rattle.kj_model.specs.Fire.{chain_ended, fire_form}
+use Rattle.kj_ownership.proofs.Lacks.{link_stops}
 use Rattle.promise_walks.specs.Walks.{Both}
 use Rattle.promise_walks.specs.Values.{given_of}
 use Rattle.promise_firing.specs.Outliving.{MayEnd}
@@ -37,5 +38,5 @@ returns-in-Err-clause-acts g c =
     let e = c.in-Err.ensures in
     let A : World → Type 0 = Both (g.N.Nodes.stands c.args.over.now.nodes) (g.M.Names.stands c.args.over.now.names) in
     let B : World → Type 0 = Both (g.N.Nodes.stands c.evaluate_link.new.self.nodes) (g.M.Names.stands c.evaluate_link.new.self.names) in
-    acts_lacking A B g.N.Nodes.rule (From (Takes c.args.link) n) (λ setting s. value_link setting t s) (fired n) e.gives.items _ _ _ _ e.gives.told e.lacks e.gives.same
+    acts_lacking A B g.N.Nodes.rule (From (Takes c.args.link) n) (λ setting s. value_link setting t s) (fired n) e.gives.items _ _ _ _ e.gives.told e.lacks e.gives.same (λ setting. link_stops setting t)
     (λ setting s stands from given. chain_fired setting n t None s from.2 given)

@@ -4,6 +4,7 @@ use Rattle.kj_model.specs.Nodes.{Form, Task, form_at}
 use Rattle.kj_model.specs.World.{World, State, Setting}
 use Rattle.kj_model.specs.Value.{value}
 use Rattle.kj_model.specs.Fire.{task_valued, fire_form}
+use Rattle.kj_ownership.proofs.Lacks.{value_stops}
 use Rattle.promise_walks.specs.Walks.{Both}
 use Rattle.promise_turns.specs.declared.looks.Event.TheVariants.{Ends}
 use Rattle.promise_turns.specs.Events.{From, fired}
@@ -35,5 +36,5 @@ returns-in-Err-clause-acts g c =
     let e = c.in-Err.ensures in
     let A : World → Type 0 = Both (g.N.Nodes.stands c.args.over.now.nodes) (g.M.Names.stands c.args.over.now.names) in
     let B : World → Type 0 = Both (g.N.Nodes.stands c.evaluate.new.self.nodes) (g.M.Names.stands c.evaluate.new.self.names) in
-    acts_lacking A B g.N.Nodes.rule (From (Ends c.args.tree) n) (λ setting s. value setting t s) (fired n) e.gives.items _ _ _ _ e.gives.told e.lacks e.gives.same
+    acts_lacking A B g.N.Nodes.rule (From (Ends c.args.tree) n) (λ setting s. value setting t s) (fired n) e.gives.items _ _ _ _ e.gives.told e.lacks e.gives.same (λ setting. value_stops setting t)
     (λ setting s stands from given. task_fired setting n t None s from.2 given)

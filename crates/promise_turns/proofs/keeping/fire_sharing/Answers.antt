@@ -4,6 +4,7 @@ use Rattle.kj_model.specs.World.{World}
 use Rattle.kj_model.specs.Value.{value}
 use Rattle.kj_model.specs.Fire.{branches_announced, kept_then}
 use Rattle.kj_ownership.proofs.Outlives.{value_branches}
+use Rattle.kj_ownership.proofs.Lacks.{value_stops}
 use Rattle.promise_walks.specs.Walks.{Both}
 use Rattle.promise_firing.specs.Outliving.{BranchesOutlive}
 use Rattle.promise_turns.specs.declared.looks.Event.TheVariants.{Shares}
@@ -34,5 +35,5 @@ returns-in-Err-clause-acts g c =
     let e = c.in-Err.ensures in
     let A : World → Type 0 = Both (g.N.Nodes.stands c.args.over.now.nodes) (g.M.Names.stands c.args.over.now.names) in
     let B : World → Type 0 = Both (g.N.Nodes.stands c.evaluate.new.self.nodes) (g.M.Names.stands c.evaluate.new.self.names) in
-    acts_lacking A B g.N.Nodes.rule (From (Shares c.args.tree) n) (λ setting s. value setting t s) (fired n) e.gives.items _ _ _ _ e.gives.told e.lacks e.gives.same
+    acts_lacking A B g.N.Nodes.rule (From (Shares c.args.tree) n) (λ setting s. value setting t s) (fired n) e.gives.items _ _ _ _ e.gives.told e.lacks e.gives.same (λ setting. value_stops setting t)
     (λ setting s stands from given. sym (from.2.fires setting n s ∙ ap (λ (x : Option Outcome). kept_then (branches_announced n) n t x (value setting t s).0) given))

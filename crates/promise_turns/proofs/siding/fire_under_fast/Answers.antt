@@ -4,6 +4,7 @@ use Rattle.kj_model.specs.World.{World}
 use Rattle.kj_model.specs.Value.{value}
 use Rattle.kj_model.specs.Fire.{fast_announced, kept_then}
 use Rattle.kj_ownership.proofs.Outlives.{value_owner_outlives}
+use Rattle.kj_ownership.proofs.Lacks.{value_stops}
 use Rattle.promise_walks.specs.Walks.{Both}
 use Rattle.promise_firing.specs.Outliving.{Outlives}
 use Rattle.promise_firing.specs.Stages.{sides_of}
@@ -43,5 +44,5 @@ returns-in-Err-clause-acts g c =
     let e = c.in-Err.ensures in
     let A : World → Type 0 = Both (g.N.Nodes.stands c.args.over.now.nodes) (g.M.Names.stands c.args.over.now.names) in
     let B : World → Type 0 = Both (g.N.Nodes.stands c.evaluate.new.self.nodes) (g.M.Names.stands c.evaluate.new.self.names) in
-    acts_lacking A B g.N.Nodes.rule (FromUnder c.args.tree join form n) (λ setting s. value setting t s) (fired n) e.gives.items _ _ _ _ e.gives.told e.lacks e.gives.same
+    acts_lacking A B g.N.Nodes.rule (FromUnder c.args.tree join form n) (λ setting s. value setting t s) (fired n) e.gives.items _ _ _ _ e.gives.told e.lacks e.gives.same (λ setting. value_stops setting t)
     (λ setting s stands from given. fast_fired_is c.args.tree n join sides was None setting s (c.is_fast_ready-was_ready.ensures s.world stands.0) from given)

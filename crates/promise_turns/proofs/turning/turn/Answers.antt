@@ -1,7 +1,9 @@
 use Rattle.std.proofs.Common.{sym, subst, refl, None, Some}
 use Rattle.kj_model.specs.World.{World}
+use Rattle.kj_model.specs.Changes.{silent}
 use Rattle.kj_model.specs.Calls.{turn}
 use Rattle.promise_walks.specs.Walks.{Both}
+use Rattle.promise_walks.specs.Values.{setting_of}
 use Rattle.promise_firing.specs.Events.{event_taken}
 use Rattle.promise_turns.specs.declared.turned.Turned.TheVariants.{Idle, Stopped}
 use Rattle.promise_turns.specs.Events.{FromTaken}
@@ -37,3 +39,13 @@ returns-in-None-clause-turns g c =
       (e.nodes s.world stands.0, subst (λ names. g.M.Names.stands names (event_taken None s.world)) (sym e.names) (g.met.M.Names.nodes_free c.args.over.now.names s.world (event_taken None s.world) refl stands.1)),
       sym (idle_is setting s (sym (c.if-is_stopped.ensures s.world stands.1)) (sym (e.head s.world stands.0))),
     ))
+
+pub returns-in-Some-clause-memory : goal.returns-in-Some-clause-memory
+returns-in-Some-clause-memory g c = λ answer s stands from.
+    let n = c.in-Some.event.number.0 in
+    let e = c.in-Some.ensures in
+    let runs = sym (c.if-is_stopped.ensures s.world stands.1) in
+    let w = event_taken (Some n) s.world in
+    let taken = taken_is n (setting_of g.N.Nodes.rule answer) s from runs (sym (e.head s.world stands.0)) in
+    c.turn_at.ensures.memory answer (silent (event_taken (Some n)) s)
+    (e.nodes s.world stands.0, subst (λ names. g.M.Names.stands names w) (sym e.names) (g.met.M.Names.nodes_free c.args.over.now.names s.world w refl stands.1)) taken.0 runs

@@ -1,4 +1,4 @@
-use Rattle.std.proofs.Common.{sym, ap, subst, refl, Bool}
+use Rattle.std.proofs.Common.{sym, ap, subst, refl, Bool, true, false}
 use Rattle.kj_model.specs.World.{World}
 use Rattle.kj_model.specs.Changes.{silent}
 use Rattle.kj_model.specs.Calls.{turned_by}
@@ -8,6 +8,7 @@ use Rattle.promise_turns.specs.declared.turned.Turned.TheVariants.{Fired, NoMemo
 use Rattle.promise_turns.specs.Events.{FromTaken, fired}
 use Rattle.promise_turns.specs.Turns.{turned_as, turned_at}
 use Rattle.promise_turns.proofs.Acted.{acts_after}
+use Rattle.promise_turns.proofs.Tied.{tied, fired_runs}
 use Rattle.promise_turns.proofs.turning.turn_at.Goals as goal
 
 pub returns-then-is_stopped-clause-turns : goal.returns-then-is_stopped-clause-turns
@@ -17,7 +18,7 @@ returns-then-is_stopped-clause-turns g c =
     let B : World → Type 0 = Both (g.N.Nodes.stands c.fire.new.over.nodes) (g.M.Names.stands c.fire.new.over.names) in
     let C : World → Type 0 = Both (g.N.Nodes.stands c.end.new.over.nodes) (g.M.Names.stands c.end.new.over.names) in
     acts_after A B C g.N.Nodes.rule (FromTaken n) (fired n) (turned_at n) (turned_as NoMemory) event_ended _ _ _ _ c.fire.ensures.acts
-    (λ w stands. (c.end.ensures.nodes w stands.0, subst (λ names. g.M.Names.stands names (event_ended w)) (sym c.end.ensures.names) (g.met.M.Names.nodes_free c.fire.new.over.names w (event_ended w) refl stands.1)))
+    (λ w stands. (c.end.ensures.nodes w stands.0, subst (λ names. g.M.Names.stands names (event_ended w)) (sym c.end.ensures.names) (g.met.M.Names.nodes_free c.fire.new.over.names w (event_ended w) refl stands.1))) (λ w. refl)
     (λ setting s stands. ap (λ (b : Bool). (silent event_ended (fired n setting s), turned_by b)) (c.if-is_stopped.ensures (event_ended (fired n setting s).world) stands.1))
 
 pub returns-clause-turns : goal.returns-clause-turns
@@ -27,5 +28,21 @@ returns-clause-turns g c =
     let B : World → Type 0 = Both (g.N.Nodes.stands c.fire.new.over.nodes) (g.M.Names.stands c.fire.new.over.names) in
     let C : World → Type 0 = Both (g.N.Nodes.stands c.end.new.over.nodes) (g.M.Names.stands c.end.new.over.names) in
     acts_after A B C g.N.Nodes.rule (FromTaken n) (fired n) (turned_at n) (turned_as Fired) event_ended _ _ _ _ c.fire.ensures.acts
-    (λ w stands. (c.end.ensures.nodes w stands.0, subst (λ names. g.M.Names.stands names (event_ended w)) (sym c.end.ensures.names) (g.met.M.Names.nodes_free c.fire.new.over.names w (event_ended w) refl stands.1)))
+    (λ w stands. (c.end.ensures.nodes w stands.0, subst (λ names. g.M.Names.stands names (event_ended w)) (sym c.end.ensures.names) (g.met.M.Names.nodes_free c.fire.new.over.names w (event_ended w) refl stands.1))) (λ w. refl)
     (λ setting s stands. ap (λ (b : Bool). (silent event_ended (fired n setting s), turned_by b)) (c.if-is_stopped.ensures (event_ended (fired n setting s).world) stands.1))
+
+pub returns-then-is_stopped-clause-memory : goal.returns-then-is_stopped-clause-memory
+returns-then-is_stopped-clause-memory g c = λ answer s stands from runs.
+    let n = c.args.event.number.0 in
+    let A : World → Type 0 = Both (g.N.Nodes.stands c.args.over.now.nodes) (g.M.Names.stands c.args.over.now.names) in
+    let B : World → Type 0 = Both (g.N.Nodes.stands c.fire.new.over.nodes) (g.M.Names.stands c.fire.new.over.names) in
+    tied A B g.N.Nodes.rule (FromTaken n) (fired n) _ _ _ _ true c.fire.ensures.acts s stands (λ other. from) (λ setting finds. fired_runs n setting s runs finds)
+    (λ w stood. c.if-is_stopped.ensures (event_ended w) (subst (λ names. g.M.Names.stands names (event_ended w)) (sym c.end.ensures.names) (g.met.M.Names.nodes_free c.fire.new.over.names w (event_ended w) refl stood.1)))
+
+pub returns-clause-memory : goal.returns-clause-memory
+returns-clause-memory g c = λ answer s stands from runs.
+    let n = c.args.event.number.0 in
+    let A : World → Type 0 = Both (g.N.Nodes.stands c.args.over.now.nodes) (g.M.Names.stands c.args.over.now.names) in
+    let B : World → Type 0 = Both (g.N.Nodes.stands c.fire.new.over.nodes) (g.M.Names.stands c.fire.new.over.names) in
+    tied A B g.N.Nodes.rule (FromTaken n) (fired n) _ _ _ _ false c.fire.ensures.acts s stands (λ other. from) (λ setting finds. fired_runs n setting s runs finds)
+    (λ w stood. c.if-is_stopped.ensures (event_ended w) (subst (λ names. g.M.Names.stands names (event_ended w)) (sym c.end.ensures.names) (g.met.M.Names.nodes_free c.fire.new.over.names w (event_ended w) refl stood.1)))
