@@ -9,7 +9,7 @@ use Rattle.kj_base.specs.Commands.{Action}
 use Rattle.kj_model.specs.Log.{Body, bodies_of}
 use Rattle.promise_commands.specs.Commands.{action_of}
 use Rattle.promise_commands.specs.Scripts.{body_of}
-use Rattle.promise_commands.specs.declared.script.Body.{Body as BodyCase}
+use Rattle.promise_commands.specs.Script.{Body as BodyCase}
 use Rattle.promise_steps.specs.declared.order.Entry.{Entry}
 use Rattle.promise_steps.specs.Order.{step_of, Precedes, InOrder, is_before, next_of, left_of}
 

@@ -12,7 +12,7 @@ use Rattle.kj_base.specs.Record.{Run}
 use Rattle.kj_base.specs.declared.outcomes.Outcome.{Outcome}
 use Rattle.kj_model.specs.Log.{scripted, passing, at_or_last}
 use Rattle.promise_commands.specs.Commands.{action_of}
-use Rattle.promise_commands.specs.declared.script.Body.{Body as BodyCase}
+use Rattle.promise_commands.specs.Script.{Body as BodyCase}
 use Rattle.promise_steps.specs.declared.order.Entry.{Entry}
 use Rattle.promise_steps.specs.Order.{step_of, Precedes, InOrder, is_before, next_of, left_of, IsLeft}
 use Rattle.promise_steps.proofs.Agreeing.{left_run}

@@ -14,7 +14,7 @@ use Rattle.kj_base.specs.declared.endings.Ending.TheVariants.{Input}
 use Rattle.kj_model.specs.Log.{Body, passing, at_or_last, runs_of, bodies_of}
 use Rattle.promise_commands.specs.Commands.{action_of}
 use Rattle.promise_commands.specs.Scripts.{body_of}
-use Rattle.promise_commands.specs.declared.script.Body.{Body as BodyCase}
+use Rattle.promise_commands.specs.Script.{Body as BodyCase}
 use Rattle.promise_steps.specs.declared.order.Entry.{Entry}
 use Rattle.promise_steps.specs.Order.{step_of, Precedes, InOrder, left_of, IsLeft}
 use Rattle.promise_steps.proofs.Lefts.{mine, mine_other, mine_here}

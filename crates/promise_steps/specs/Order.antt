@@ -7,7 +7,7 @@ use Rattle.kj_base.specs.Commands.{Action}
 use Rattle.kj_model.specs.Log.{Body, passing, scripted}
 use Rattle.promise_commands.specs.Commands.{action_of}
 use Rattle.promise_commands.specs.Scripts.{body_of}
-use Rattle.promise_commands.specs.declared.script.Body.{Body as BodyCase}
+use Rattle.promise_commands.specs.Script.{Body as BodyCase}
 use Rattle.promise_steps.specs.declared.order.Entry.{Entry}
 
 -- the step of an entry
