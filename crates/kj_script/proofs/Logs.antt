@@ -1,18 +1,19 @@
 -- The log, line by line.
-use Rattle.std.proofs.Common.{◌≡◌, ◌∙◌, ◌<◌, ◌≤◌, ◌+◌, ℕ, zero, suc, Result, Ok, Err, OnOk, List, [], ◌∷◌, ◌++◌, Option, None, Some, false, map, length, drop, get_or, refl, sym, ap, subst, append-nil, arith}
+use Rattle.std.proofs.Common.{◌≡◌, ◌⊎◌, inl, inr, ◌∙◌, ◌<◌, ◌≤◌, ◌+◌, ℕ, zero, suc, Result, Ok, Err, OnOk, List, [], ◌∷◌, ◌++◌, Option, None, Some, is_some, map, length, drop, get_or, refl, sym, ap, subst, append-nil, arith}
 use Rattle.std.proofs.lemmas.List.{append_assoc}
 use Rattle.kj_base.specs.Counts.{HasLacked}
-use Rattle.kj_base.specs.Record.{Item, Tells}
-use Rattle.kj_model.specs.World.{World, State, Setting, Asked, Ended}
+use Rattle.kj_base.specs.Record.{Item}
+use Rattle.kj_model.specs.World.{State, Setting, Asked, Ended}
 use Rattle.kj_model.specs.Apply.{Refused}
 use Rattle.kj_model.specs.Calls.{Turned, Fired, Idle, NoMemory, Stopped, close}
-use Rattle.kj_model.specs.Log.{Body, LogLine, Logged, Numbered, Told as ToldLine, all_taken, applied_line, asks_taken, each_ask, each_end, each_gone, ends_taken, gone_taken, log_closed, logged, refused_line, run_rest, scripted, told_since, turned_line, RefusedAt, WasIdle}
+use Rattle.kj_model.specs.Log.{Body, LogLine, Logged, Told as ToldLine, all_taken, applied_line, asks_taken, each_ask, each_end, each_gone, ends_taken, gone_taken, log_closed, logged, refused_line, run_rest, scripted, told_since, turned_line, RefusedAt, WasIdle}
 use Rattle.kj_model.specs.Text.{log_text, line_text}
-use Rattle.loop_core.specs.Calls.{AreLacking, CallIs, Closes, Lack, has_any}
+use Rattle.loop_core.specs.Calls.{CallIs, Closes}
 use Rattle.promise_commands.specs.Scripts.{numbered_of}
 use Rattle.promise_commands.specs.declared.script.NumberedLine.{NumberedLine}
 use Rattle.promise_names.specs.Held.{HasNoneListed}
 use Rattle.promise_steps.specs.Following.{Follows, Prints}
+use Rattle.promise_turns.specs.Acting.{IsMissing}
 use Rattle.promise_turns.specs.Turns.{turned_of}
 use Rattle.promise_turns.specs.declared.turned.Turned.{Turned as TurnedCase}
 use Rattle.promise_turns.specs.declared.turned.Turned.TheVariants.{Fired as FiredCase, Idle as IdleCase, NoMemory as NoMemoryCase, Stopped as StoppedCase}
@@ -46,9 +47,9 @@ grown l r items old new past text more =
     more ∙ ap (λ (t : List ℕ). t ++ log_text (map ToldLine items)) text ∙ sym (log_text-append l.log (map ToldLine items))
     ∙ ap (λ (xs : List LogLine). log_text (l.log ++ xs)) (sym (told_is l.state r items past)) ∙ ap log_text (sym (append-nil (l.log ++ told_since l.state r)))
 
-no_lacks : (lacks : List Lack) → HasLacked (has_any lacks) 0 0 → lacks ≡ []
-no_lacks [] h = refl
-no_lacks (lack ∷ lacks) h = absurd (omega (arith, h))
+none_missing : (missing : Option ℕ) → HasLacked (is_some missing) 0 0 → missing ≡ None
+none_missing None h = refl
+none_missing (Some step) h = absurd (omega (arith, h))
 
 -- a call whose items were printed, by steps that never lack memory
 pub record Printed {R : Type 0} (bodies : List Body) (New : State → Type 0) (told : Option (List Item)) (text : List ℕ) (l : Logged) (r : State × R) (reply : R) : Type 0 where
@@ -60,7 +61,7 @@ pub call_printed : {R : Type 0} (bodies : List Body) (Old New : State → Type 0
     → Printed bodies New c new l (f (setting_of rule (scripted bodies)) l.state) reply
 call_printed {R} bodies Old New rule f reply a b c old new l call prints shows =
     let p = prints bodies l.state.past call.items a shows.follows call.told in
-    let lacking = subst (λ (xs : List Lack). AreLacking (scripted bodies) l.state.past xs) (sym (no_lacks call.lacks call.counts)) tt in
+    let lacking = subst (λ (o : Option ℕ). IsMissing (scripted bodies) (l.state.past ++ call.items) o) (sym (none_missing call.missing (call.counts l.state shows.stands))) tt in
     let r = call.leads (scripted bodies) l.state shows.stands p.agrees lacking in
     let end : State × R = f (setting_of rule (scripted bodies)) l.state in
     let here : r.state ≡ end.0 = ap (λ (x : State × R). x.0) r.ends in
@@ -164,3 +165,12 @@ run_ends rest turned FiredCase s l same other = absurd (other refl)
 run_ends rest turned IdleCase s l same other = ap (λ (t : Turned). run_rest rest t (turned_line [] s t l)) same
 run_ends rest turned NoMemoryCase s l same other = ap (λ (t : Turned). run_rest rest t (turned_line [] s t l)) same
 run_ends rest turned StoppedCase s l same other = ap (λ (t : Turned). run_rest rest t (turned_line [] s t l)) same
+
+-- three answers of a turn that are not idle
+pub not_idle : (case : TurnedCase) → (case ≡ FiredCase) ⊎ (case ≡ NoMemoryCase) ⊎ (case ≡ StoppedCase) → case ≡ IdleCase → ⊥
+not_idle FiredCase which e = absurd (cc e)
+not_idle IdleCase (inl a) e = absurd (cc a)
+not_idle IdleCase (inr (inl a)) e = absurd (cc a)
+not_idle IdleCase (inr (inr a)) e = absurd (cc a)
+not_idle NoMemoryCase which e = absurd (cc e)
+not_idle StoppedCase which e = absurd (cc e)

@@ -2,3 +2,6 @@
 #![tactic(auto)]
 
 mod lines;
+mod run;
+
+pub use run::run_script;

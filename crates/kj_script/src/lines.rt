@@ -26,10 +26,10 @@ fn do_command<N: Nodes + Drop, M: Names + Drop>(
 ) -> Result<(), NoMemory>
     ensures { OnOk result ((bodies : List Body) (l : Logged)
         → Shows bodies (StandsAt N.rule (N.stands over.old.nodes) (M.stands over.old.names))
-            (told_by steps.old) text.old l
+        (told_by steps.old) text.old l
         → Shows bodies (StandsAt N.rule (N.stands over.new.nodes) (M.stands over.new.names))
-            (told_by steps.new) text.new
-            (log_line (setting_of N.rule bodies) number (Do (command_of command.now)) l)) }
+        (told_by steps.new) text.new
+        (log_line (setting_of N.rule bodies) number (Do (command_of command.now)) l)) }
 {
     let applied = over.apply(command.copy(), steps);
     steps.drain_into(text)?;
@@ -47,14 +47,14 @@ fn make_turn<N: Nodes + Drop, M: Names + Drop>(
 ) -> Result<Turned, NoMemory>
     ensures turned { IfOk result (λ turned. (bodies : List Body) (l : Logged)
         → Shows bodies (StandsAt N.rule (N.stands over.old.nodes) (M.stands over.old.names))
-            (told_by steps.old) text.old l
+        (told_by steps.old) text.old l
         → (turn (setting_of N.rule bodies) l.state).1 ≡ turned_of turned) }
     ensures shows { IfOk result (λ turned. (bodies : List Body) (l : Logged)
         → Shows bodies (StandsAt N.rule (N.stands over.old.nodes) (M.stands over.old.names))
-            (told_by steps.old) text.old l
+        (told_by steps.old) text.old l
         → Shows bodies (StandsAt N.rule (N.stands over.new.nodes) (M.stands over.new.names))
-            (told_by steps.new) text.new
-            (turned_line [] (turn (setting_of N.rule bodies) l.state).0 (turned_of turned) l)) }
+        (told_by steps.new) text.new
+        (turned_line [] (turn (setting_of N.rule bodies) l.state).0 (turned_of turned) l)) }
 {
     let turned = over.turn(steps);
     steps.drain_into(text)?;
@@ -69,11 +69,11 @@ fn do_turn<N: Nodes + Drop, M: Names + Drop>(
 ) -> Result<(), NoMemory>
     ensures { OnOk result ((bodies : List Body) (l : Logged)
         → Shows bodies (StandsAt N.rule (N.stands over.old.nodes) (M.stands over.old.names))
-            (told_by steps.old) text.old l
+        (told_by steps.old) text.old l
         → Shows bodies (StandsAt N.rule (N.stands over.new.nodes) (M.stands over.new.names))
-            (told_by steps.new) text.new
-            (turned_line (WasIdle ∷ []) (turn (setting_of N.rule bodies) l.state).0
-                (turn (setting_of N.rule bodies) l.state).1 l)) }
+        (told_by steps.new) text.new
+        (turned_line (WasIdle ∷ []) (turn (setting_of N.rule bodies) l.state).0
+        (turn (setting_of N.rule bodies) l.state).1 l)) }
 {
     match make_turn(over, steps, text)? {
         Turned::Idle => print_idle(text),
@@ -92,9 +92,9 @@ fn do_run<N: Nodes + Drop, M: Names + Drop>(
 ) -> Result<(), NoMemory>
     ensures { OnOk result ((bodies : List Body) (l : Logged)
         → Shows bodies (StandsAt N.rule (N.stands over.old.nodes) (M.stands over.old.names))
-            (told_by steps.old) text.old l
+        (told_by steps.old) text.old l
         → Shows bodies (StandsAt N.rule (N.stands over.new.nodes) (M.stands over.new.names))
-            (told_by steps.new) text.new (run_lines (setting_of N.rule bodies) turns l)) }
+        (told_by steps.new) text.new (run_lines (setting_of N.rule bodies) turns l)) }
 {
     let mut left = turns;
     while left > 0 {
@@ -115,10 +115,10 @@ pub(crate) fn do_line<N: Nodes + Drop, M: Names + Drop>(
 ) -> Result<(), NoMemory>
     ensures { OnOk result ((bodies : List Body) (l : Logged)
         → Shows bodies (StandsAt N.rule (N.stands over.old.nodes) (M.stands over.old.names))
-            (told_by steps.old) text.old l
+        (told_by steps.old) text.old l
         → Shows bodies (StandsAt N.rule (N.stands over.new.nodes) (M.stands over.new.names))
-            (told_by steps.new) text.new
-            (log_line (setting_of N.rule bodies) numbered.now.number (line_of numbered.now.line) l)) }
+        (told_by steps.new) text.new
+        (log_line (setting_of N.rule bodies) numbered.now.number (line_of numbered.now.line) l)) }
 {
     match &numbered.line {
         Line::Do(command) => do_command(over, steps, text, numbered.number, command),

@@ -1,3 +1,3 @@
-pub mod Answering
 pub mod Called
+pub mod Ending
 pub mod Turning

@@ -1,20 +1,20 @@
 //! A loop over keepers of nodes and names.
 ghost use Rattle.std.specs.Prelude.{◌≡◌, ◌≤◌, ◌+◌, ℕ, [], IfOk, None, false};
-ghost use Rattle.kj_base.specs.Counts.{Rose};
+ghost use Rattle.kj_base.specs.Counts.{HasLacked};
 ghost use Rattle.kj_base.specs.Queue.{no_events};
 ghost use Rattle.kj_model.specs.Apply.{apply};
 ghost use Rattle.kj_model.specs.Calls.{run, turn};
 ghost use Rattle.kj_model.specs.World.{State, new_state};
 ghost use Rattle.promise_commands.specs.Commands.{command_of};
 ghost use Rattle.promise_commands.specs.Refusals.{refusal_of};
-ghost use Rattle.promise_turns.specs.Turns.{turned_as};
-ghost use Rattle.promise_turns.specs.declared.turned.Turned.TheVariants.{NoMemory as NoMemoryTurned};
-ghost use Rattle.loop_core.specs.Calls.{CallIs};
+ghost use Rattle.promise_turns.specs.Turns.{lacked_memory, turned_as};
+ghost use Rattle.loop_core.specs.Calls.{CallIs, Closes};
 ghost use Rattle.promise_graph.specs.Standing.{StandsFor};
 ghost use Rattle.name_table.specs.Table.{Stands as NamesStand};
 ghost use Rattle.loop_core.specs.Loops.{StandsAt, TakesNoMore};
 
 use crate::applying::apply_over;
+use crate::closing::close_over;
 use crate::running::{run_over, turn_over};
 use kj_base::{Limits, MAX_SLOTS, NoMemory, Queue, Store};
 use name_table::NameTable;
@@ -69,7 +69,7 @@ impl<N: Nodes + Drop, M: Names + Drop> LoopOver<N, M> {
             (S.told steps.old) (S.told steps.new) (S.lacks steps.old) (S.lacks steps.new) }
         ensures memory { (s : State)
             → StandsAt N.rule (N.stands self.old.nodes) (M.stands self.old.names) s
-            → result ≡ NoMemoryTurned → Rose (S.lacks steps.old) (S.lacks steps.new) }
+            → HasLacked (lacked_memory result) (S.lacks steps.old) (S.lacks steps.new) }
     {
         turn_over(&mut self.over, steps)
     }
@@ -83,9 +83,21 @@ impl<N: Nodes + Drop, M: Names + Drop> LoopOver<N, M> {
             (S.told steps.old) (S.told steps.new) (S.lacks steps.old) (S.lacks steps.new) }
         ensures memory { (s : State)
             → StandsAt N.rule (N.stands self.old.nodes) (M.stands self.old.names) s
-            → result ≡ NoMemoryTurned → Rose (S.lacks steps.old) (S.lacks steps.new) }
+            → HasLacked (lacked_memory result) (S.lacks steps.old) (S.lacks steps.new) }
     {
         run_over(&mut self.over, turns, steps)
+    }
+
+    /// The loop goes (kj/async.h, the destructor of an `EventLoop`) with all that it holds, and no step runs: what is left
+    /// over, what each name holds by rising name, the tasks of its own set newest first, then hubs. The frees are told in
+    /// this order.
+    pub fn close<S: Steps>(self, steps: &mut S)
+        ensures closes { Closes (StandsAt N.rule (N.stands self.nodes) (M.stands self.names))
+            (S.told steps.old) (S.told steps.new) }
+        ensures lacks { S.lacks steps.new ≡ S.lacks steps.old }
+    {
+        let mut over = self.over;
+        close_over(&mut over, steps);
     }
 }
 

@@ -1,10 +1,9 @@
 //! Turns.
 ghost use Rattle.std.specs.Prelude.{◌≡◌, []};
-ghost use Rattle.kj_base.specs.Counts.{Rose};
+ghost use Rattle.kj_base.specs.Counts.{HasLacked};
 ghost use Rattle.kj_model.specs.World.{State};
 ghost use Rattle.kj_model.specs.Calls.{run, turn};
-ghost use Rattle.promise_turns.specs.Turns.{turned_as};
-ghost use Rattle.promise_turns.specs.declared.turned.Turned.TheVariants.{NoMemory};
+ghost use Rattle.promise_turns.specs.Turns.{lacked_memory, turned_as};
 ghost use Rattle.loop_core.specs.Loops.{StandsAt};
 ghost use Rattle.loop_core.specs.Calls.{CallIs};
 
@@ -27,7 +26,7 @@ pub(crate) fn turn_over<N: Nodes + Drop, M: Names + Drop, S: Steps>(
         (S.told steps.old) (S.told steps.new) (S.lacks steps.old) (S.lacks steps.new) }
     ensures memory { (s : State)
         → StandsAt N.rule (N.stands over.old.nodes) (M.stands over.old.names) s
-        → result ≡ NoMemory → Rose (S.lacks steps.old) (S.lacks steps.new) }
+        → HasLacked (lacked_memory result) (S.lacks steps.old) (S.lacks steps.new) }
     ensures over { M.over over.new.names ≡ [] }
 {
     turn(over, steps)
@@ -47,12 +46,12 @@ pub(crate) fn run_over<N: Nodes + Drop, M: Names + Drop, S: Steps>(
         (S.told steps.old) (S.told steps.new) (S.lacks steps.old) (S.lacks steps.new) }
     ensures memory { (s : State)
         → StandsAt N.rule (N.stands over.old.nodes) (M.stands over.old.names) s
-        → result ≡ NoMemory → Rose (S.lacks steps.old) (S.lacks steps.new) }
+        → HasLacked (lacked_memory result) (S.lacks steps.old) (S.lacks steps.new) }
     ensures over { M.over over.new.names ≡ [] }
 {
     let mut left = turns;
     while left > 0 {
-        match turn_over(over, steps) {
+        match turn(over, steps) {
             Turned::Fired => left -= 1,
             other => return other,
         }

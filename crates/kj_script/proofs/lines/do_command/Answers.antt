@@ -1,8 +1,7 @@
 -- What a command did is what the definitions do.
-use Rattle.std.proofs.Common.{List, Option, None, Some, false, subst}
-use Rattle.kj_base.specs.Record.{Item}
+use Rattle.std.proofs.Common.{Option, None, Some, false, subst}
 use Rattle.kj_model.specs.Apply.{Refused, apply}
-use Rattle.kj_model.specs.Log.{Body, Logged, scripted}
+use Rattle.kj_model.specs.Log.{scripted}
 use Rattle.kj_model.specs.World.{State, Setting}
 use Rattle.promise_commands.specs.Commands.{command_of}
 use Rattle.promise_commands.specs.Refusals.{refused_of}
@@ -11,7 +10,7 @@ use Rattle.promise_steps.specs.Kept.{told_by}
 use Rattle.promise_walks.specs.Values.{setting_of}
 use Rattle.loop_core.specs.Calls.{CallIs}
 use Rattle.loop_core.specs.Loops.{StandsAt}
-use Rattle.kj_script.proofs.Logs.{Printed, call_printed, command_done, command_refused, on_ok}
+use Rattle.kj_script.proofs.Logs.{call_printed, command_done, command_refused, on_ok}
 use Rattle.kj_script.proofs.lines.do_command.Goals as goal
 
 pub returns-in-Ok : goal.returns-in-Ok

@@ -1,8 +1,7 @@
 -- What a turn did is what the definitions do.
-use Rattle.std.proofs.Common.{List, Option, subst}
-use Rattle.kj_model.specs.Calls.{Turned, turn}
-use Rattle.kj_model.specs.Log.{Body, Logged, scripted}
-use Rattle.kj_model.specs.World.{State, Setting}
+use Rattle.kj_model.specs.Calls.{turn}
+use Rattle.kj_model.specs.Log.{scripted}
+use Rattle.kj_model.specs.World.{State}
 use Rattle.promise_turns.specs.Turns.{turned_of}
 use Rattle.promise_walks.specs.Values.{setting_of}
 use Rattle.loop_core.specs.Loops.{StandsAt}

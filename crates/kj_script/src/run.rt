@@ -1,0 +1,82 @@
+//! A script, run on a loop of its own.
+ghost use Rattle.std.specs.Prelude.{◌≡◌, ◌≤◌, List, IfOk, OnOk};
+ghost use Rattle.kj_model.specs.Log.{Body, Logged, limits_or, log_closed, log_of};
+ghost use Rattle.kj_model.specs.Places.{table_fits};
+ghost use Rattle.kj_model.specs.Text.{log_text};
+ghost use Rattle.kj_model.specs.World.{new_state};
+ghost use Rattle.loop_core.specs.Loops.{StandsAt};
+ghost use Rattle.name_table.specs.Table.{Stands as NamesStand};
+ghost use Rattle.node_table.specs.NodeTable.{node_of, Stands as TableStands};
+ghost use Rattle.promise_commands.specs.Scripts.{script_of};
+ghost use Rattle.promise_graph.specs.Standing.{StandsFor};
+ghost use Rattle.promise_steps.specs.Kept.{told_by};
+ghost use Rattle.kj_script.specs.Running.{HaveLimits, Shows};
+
+use crate::lines::do_line;
+use event_links::EventLinks;
+use kj_base::{Bytes, Limits, MAX_SLOTS, NAMES, NoMemory, SLOTS};
+use loop_core::{Loop, LoopOver};
+use node_table::NodeTable;
+use promise_commands::Script;
+use promise_names::Names;
+use promise_nodes::Nodes;
+use promise_steps::ScriptSteps;
+use std::alloc::Global;
+
+// The limits of a script, or the usual ones.
+fn limits_of(limits: &Option<Limits>) -> Limits
+    requires { HaveLimits limits.now }
+    ensures limits { result ≡ limits_or limits.now }
+    ensures few { result.slots ≤ MAX_SLOTS }
+{
+    match limits {
+        Some(limits) => *limits,
+        None => Limits {
+            slots: SLOTS,
+            names: NAMES,
+        },
+    }
+}
+
+// A loop in which nothing was built, over a table of nodes and a queue in place.
+fn new_loop(alloc: Global, limits: Limits) -> Result<Loop<NodeTable, EventLinks>, NoMemory>
+    requires { limits.slots ≤ MAX_SLOTS }
+    ensures { IfOk result (λ l. StandsAt table_fits
+        (StandsFor (node_of l.nodes.store) l.nodes.queue.events (TableStands l.nodes.store) l.nodes.marks)
+        (NamesStand l.names) (new_state limits)) }
+{
+    let store = NodeTable::new(alloc, limits.slots)?;
+    let queue = EventLinks::new(alloc, limits.slots + 1)?;
+    LoopOver::new(alloc, limits, store, queue)
+}
+
+// The loop is closed, and what that frees ends the log.
+fn close<N: Nodes + Drop, M: Names + Drop>(
+    over: LoopOver<N, M>,
+    steps: &mut ScriptSteps,
+    text: &mut Bytes,
+) -> Result<(), NoMemory>
+    ensures { OnOk result ((bodies : List Body) (l : Logged)
+        → Shows bodies (StandsAt N.rule (N.stands over.nodes) (M.stands over.names))
+        (told_by steps.old) text.old l
+        → text.new ≡ log_text (log_closed l)) }
+{
+    over.close(steps);
+    steps.drain_into(text)
+}
+
+/// Runs a script from its first line to the closing of its loop, and gives its log. A script that gives no limits has
+/// the usual ones.
+pub fn run_script(alloc: Global, script: &Script) -> Result<Bytes, NoMemory>
+    requires limits { HaveLimits script.now.limits }
+    ensures { IfOk result (λ log. log ≡ log_text (log_of table_fits (script_of script.now))) }
+{
+    let mut over = new_loop(alloc, limits_of(&script.limits))?;
+    let mut steps = ScriptSteps::new(alloc, &script.bodies)?;
+    let mut text = Bytes::new(alloc);
+    for line in script.lines.as_slice() {
+        do_line(&mut over, &mut steps, &mut text, line)?;
+    }
+    close(over, &mut steps, &mut text)?;
+    Ok(text)
+}
