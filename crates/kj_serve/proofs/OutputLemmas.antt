@@ -5,7 +5,7 @@ use Rattle.std.proofs.lemmas.List.Elements.{All-cons, All-nil}
 use Rattle.std.proofs.lemmas.Bool.{cases_lt}
 use Rattle.std.specs.Io.KnownBytes.{Consumes, Appends}
 use Rattle.kj_base.specs.declared.limits.TheConstants.{INPUT_LIMIT}
-use Rattle.promise_commands.specs.declared.script.Script.{Script}
+use Rattle.promise_commands.specs.Script.{Script}
 use Rattle.promise_commands.specs.Scripts.{script_of}
 use Rattle.kj_model.specs.Log.{log_of}
 use Rattle.kj_model.specs.Places.{table_fits}

@@ -11,6 +11,6 @@ mod steps;
 pub use action::{Action, Commands};
 pub use command::Command;
 pub use refused::Refused;
-pub use script::{Bodies, Body, Line, Lines, NumberedLine, Script};
+pub use script::{Line, NumberedLine};
 pub use sources::{MAX_PARTS, Sources};
 pub use steps::Steps;

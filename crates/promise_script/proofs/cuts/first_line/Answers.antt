@@ -1,8 +1,8 @@
 -- Up to the first LF, or to the end.
 use Rattle.std.proofs.Common.{◌≡◌, ◌+◌, ◌-◌, [], take, drop, length, arith, rules}
-use Rattle.promise_script.proofs.Cuts.{first_and_rest, line_alone, take_over}
+use Rattle.promise_script.proofs.Cutting.{first_and_rest, line_alone, take_over}
 use Rattle.std.proofs.lemmas.List.{length-drop}
-use Rattle.promise_script.proofs.reader.first_line.Goals as goal
+use Rattle.promise_script.proofs.cuts.first_line.Goals as goal
 
 pub returns-in-Some-clause-lines : goal.returns-in-Some-clause-lines
 returns-in-Some-clause-lines c =
