@@ -2,6 +2,13 @@
 #![tactic(auto)]
 
 mod cut;
+mod held;
+mod map;
+mod names;
+mod roots;
 mod tree;
 
+pub use cut::Cut;
+pub use map::KeyMap;
+pub use names::NameTree;
 pub use tree::{Node, Tree};
