@@ -1,22 +1,12 @@
 //! What names hold, in trees.
 ghost use Rattle.std.specs.Prelude.{◌≡◌, ℕ};
-ghost use Rattle.name_table.specs.Entries.{held_replaced};
 ghost use Rattle.name_tree.specs.Trees.{count_of, IsSplit};
 ghost use Rattle.name_tree.specs.Listed.{IsRenamed};
 
 use crate::tree::Tree;
 use kj_base::Link;
+use name_table::held_after;
 use promise_names::Held;
-
-// What a name holds, where a tree was replaced.
-fn held_after(held: Held, old: Link, new: Link) -> Held
-    ensures { result ≡ held_replaced old.number.0 new held }
-{
-    match held {
-        Held::Promise(root) if root.number.0 == old.number.0 => Held::Promise(new),
-        other => other,
-    }
-}
 
 // A tree is replaced by another under each name.
 pub(crate) fn replace_all(tree: &mut Tree<Held>, old: Link, new: Link)

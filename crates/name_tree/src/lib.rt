@@ -5,6 +5,7 @@ mod cut;
 mod held;
 mod map;
 mod names;
+mod renames;
 mod roots;
 mod tree;
 

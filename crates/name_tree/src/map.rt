@@ -1,5 +1,5 @@
 //! Keys with values, in memory that is taken once.
-ghost use Rattle.std.specs.Prelude.{◌≡◌, ◌+◌, ◌<◌, ◌==◌, not, ◌≤◌, vec_capacity, None, Some, IfOk, vec_len};
+ghost use Rattle.std.specs.Prelude.{◌≡◌, ◌+◌, ◌<◌, ◌==◌, not, ◌≤◌, vec_capacity, None, Some, IfOk, IsSome, vec_len};
 ghost use Rattle.name_tree.specs.Cuts.{IsCut};
 ghost use Rattle.name_tree.specs.Trees.{value_at, count_of, IsSetAt, IsLowest};
 ghost use Rattle.name_tree.specs.Maps.{IsMap, total_of};
@@ -90,6 +90,7 @@ impl<V: Copy> KeyMap<V> {
         requires room { 0 < vec_len self.old.spare }
         ensures set { IsSetAt key (Some value) self.old.tree self.new.tree }
         ensures map { IsMap self.new }
+        ensures cut { self.new.cut ≡ self.old.cut }
         ensures total { total_of self.new ≡ total_of self.old }
     {
         if let Some(spare) = self.spare.pop() {
@@ -99,11 +100,24 @@ impl<V: Copy> KeyMap<V> {
         }
     }
 
+    // A key that is there has this value now.
+    pub(crate) fn replace(&mut self, key: u64, value: V)
+        requires map { IsMap self.old }
+        requires there { IsSome (value_at key self.old.tree) }
+        ensures set { IsSetAt key (Some value) self.old.tree self.new.tree }
+        ensures map { IsMap self.new }
+        ensures cut { self.new.cut ≡ self.old.cut }
+        ensures total { total_of self.new ≡ total_of self.old }
+    {
+        tree::replace(&mut self.tree, key, value, self.cut);
+    }
+
     // A key goes.
     pub(crate) fn remove(&mut self, key: u64)
         requires map { IsMap self.old }
         ensures set { IsSetAt key None self.old.tree self.new.tree }
         ensures map { IsMap self.new }
+        ensures cut { self.new.cut ≡ self.old.cut }
         ensures total { total_of self.new ≡ total_of self.old }
     {
         if let Some(node) = tree::take(&mut self.tree, key, self.cut) {

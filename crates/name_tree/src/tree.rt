@@ -1,5 +1,5 @@
 //! A search tree that is divided at fixed keys.
-ghost use Rattle.std.specs.Prelude.{◌≡◌, ◌+◌, ℕ, None, Some, Option};
+ghost use Rattle.std.specs.Prelude.{◌≡◌, ◌+◌, ℕ, None, Some, IsSome};
 ghost use Rattle.name_tree.specs.Cuts.{IsCut};
 ghost use Rattle.name_tree.specs.Trees.{value_at, count_of, one_if, IsSplit, IsSetAt, IsLowest};
 ghost use Rattle.name_tree.specs.Leaves.{IsAlone, HasLostLeaf, HasMovedUp};
@@ -105,6 +105,29 @@ pub(crate) fn put<V: Copy>(
                 put(&mut node.low, key, value, spare, cut.low())
             } else {
                 put(&mut node.high, key, value, spare, cut.high())
+            }
+        }
+    }
+}
+
+// A key that is there has this value now.
+pub(crate) fn replace<V: Copy>(tree: &mut Tree<V>, key: u64, value: V, cut: Cut)
+    requires cut { IsCut cut.at cut.step }
+    requires split { IsSplit cut.at cut.step tree.old }
+    requires there { IsSome (value_at key tree.old) }
+    ensures set { IsSetAt key (Some value) tree.old tree.new }
+    ensures count { count_of tree.new ≡ count_of tree.old }
+    ensures split { IsSplit cut.at cut.step tree.new }
+{
+    match tree {
+        Tree::Empty => {}
+        Tree::Fork(node) => {
+            if node.key == key {
+                node.value = value;
+            } else if key < cut.at {
+                replace(&mut node.low, key, value, cut.low());
+            } else {
+                replace(&mut node.high, key, value, cut.high());
             }
         }
     }

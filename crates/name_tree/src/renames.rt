@@ -1,0 +1,66 @@
+//! A promise that has another tree.
+ghost use Rattle.std.specs.Prelude.{◌≡◌, ℕ, Some, true};
+ghost use Rattle.promise_names.specs.Held.{AreApart};
+ghost use Rattle.name_tree.specs.Maps.{IsMap, total_of};
+ghost use Rattle.name_tree.specs.Listed.{root_in, Knows, IsRenamed};
+
+use crate::held::replace_all;
+use crate::map::KeyMap;
+use crate::roots::{forget, learn, name_of};
+use kj_base::{Link, Name};
+use promise_names::Held;
+
+// The promise of this name has another tree. Answers whether its root is known.
+fn give(
+    names: &mut KeyMap<Held>,
+    roots: &mut KeyMap<Name>,
+    name: Name,
+    old: Link,
+    new: Link,
+) -> bool
+    requires names { IsMap names.old }
+    requires roots { IsMap roots.old }
+    requires apart { AreApart (λ n. root_in n names.old.tree) }
+    requires has { root_in name.0 names.old.tree ≡ Some old.number.0 }
+    ensures renamed { IsRenamed old.number.0 new names.old.tree names.new.tree }
+    ensures names { IsMap names.new }
+    ensures cut { names.new.cut ≡ names.old.cut }
+    ensures total { total_of names.new ≡ total_of names.old }
+    ensures roots { IsMap roots.new }
+    ensures known { result ≡ true → Knows names.old.tree roots.old.tree → Knows names.new.tree roots.new.tree }
+{
+    forget(roots, name, Some(Held::Promise(old)));
+    names.replace(name.0 as u64, Held::Promise(new));
+    learn(roots, name, Held::Promise(new))
+}
+
+// The promise of a tree, where a name has it, has another tree. Answers whether each root is known. While they are, no name
+// is looked at that hasn't the tree; they are in each loop, where no two names promise one tree.
+pub(crate) fn rename(
+    names: &mut KeyMap<Held>,
+    roots: &mut KeyMap<Name>,
+    is_known: bool,
+    old: Link,
+    new: Link,
+) -> bool
+    requires names { IsMap names.old }
+    requires roots { IsMap roots.old }
+    requires known { is_known ≡ true → Knows names.old.tree roots.old.tree }
+    requires apart { AreApart (λ n. root_in n names.old.tree) }
+    ensures renamed { IsRenamed old.number.0 new names.old.tree names.new.tree }
+    ensures names { IsMap names.new }
+    ensures cut { names.new.cut ≡ names.old.cut }
+    ensures total { total_of names.new ≡ total_of names.old }
+    ensures roots { IsMap roots.new }
+    ensures known { result ≡ true → Knows names.new.tree roots.new.tree }
+{
+    match name_of(names, roots, old) {
+        Some(name) => give(names, roots, name, old, new) && is_known,
+        None => {
+            if !is_known {
+                replace_all(&mut names.tree, old, new);
+            }
+            is_known
+        }
+    }
+}
