@@ -16,7 +16,7 @@ use Rattle.name_tree.specs.Listed.{listed, held_after, IsRenamed}
 use Rattle.name_tree.proofs.Listed.{held_listed, rising_listed}
 use Rattle.name_tree.proofs.Same.{same_rising}
 
-unequal : (a b : ℕ) → nat_eq a b ≡ false → a ≡ b → ⊥
+pub unequal : (a b : ℕ) → nat_eq a b ≡ false → a ≡ b → ⊥
 unequal a b t same = absurd (false≢true (sym t ∙ grind (arith, nat_tests)))
 
 -- ---- a name holds this now
