@@ -11,7 +11,7 @@ use Rattle.name_table.proofs.Rising.{equal}
 use Rattle.name_tree.specs.declared.tree.Tree.{Tree}
 use Rattle.name_tree.specs.Trees.{value_at, IsSplit, IsLowest}
 use Rattle.name_tree.specs.Listed.{listed}
-use Rattle.name_tree.proofs.Listed.{held_listed, rising_listed}
+use Rattle.name_tree.proofs.Rises.{held_listed, rising_listed}
 
 some_first : (e : Entry) (es : List Entry) → IsSome (held_in e.name.0 (e ∷ es))
 some_first e es = rw (equal e.name.0) refl

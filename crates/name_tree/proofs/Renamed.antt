@@ -12,7 +12,7 @@ use Rattle.name_tree.specs.declared.tree.Tree.{Tree}
 use Rattle.name_tree.specs.Trees.{value_at, IsSetAt}
 use Rattle.name_tree.specs.Listed.{root_in, held_after, Knows, IsRenamed}
 use Rattle.name_tree.specs.Roots.{KeepsOthers, KeepsAll, HasName}
-use Rattle.name_tree.proofs.Changes.{unequal}
+use Rattle.name_tree.proofs.Lists.{unequal}
 
 equal : (a b : ℕ) → a ≡ b → nat_eq a b ≡ true
 equal a b same = grind (arith, nat_tests)

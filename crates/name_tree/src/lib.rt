@@ -1,11 +1,11 @@
 //! The names of a loop, in a search tree.
 #![tactic(auto)]
 
+mod changes;
 mod cut;
 mod held;
 mod map;
 mod names;
-mod renames;
 mod roots;
 mod tree;
 

@@ -92,6 +92,7 @@ impl<V: Copy> KeyMap<V> {
         ensures map { IsMap self.new }
         ensures cut { self.new.cut ≡ self.old.cut }
         ensures total { total_of self.new ≡ total_of self.old }
+        ensures few { count_of self.new.tree ≤ count_of self.old.tree + 1 }
     {
         if let Some(spare) = self.spare.pop() {
             if let Some(node) = tree::put(&mut self.tree, key, value, spare, self.cut) {
@@ -108,6 +109,7 @@ impl<V: Copy> KeyMap<V> {
         ensures map { IsMap self.new }
         ensures cut { self.new.cut ≡ self.old.cut }
         ensures total { total_of self.new ≡ total_of self.old }
+        ensures count { count_of self.new.tree ≡ count_of self.old.tree }
     {
         tree::replace(&mut self.tree, key, value, self.cut);
     }
@@ -119,6 +121,8 @@ impl<V: Copy> KeyMap<V> {
         ensures map { IsMap self.new }
         ensures cut { self.new.cut ≡ self.old.cut }
         ensures total { total_of self.new ≡ total_of self.old }
+        ensures gone { IsSome (value_at key self.old.tree) → count_of self.new.tree + 1 ≡ count_of self.old.tree }
+        ensures few { count_of self.new.tree ≤ count_of self.old.tree }
     {
         if let Some(node) = tree::take(&mut self.tree, key, self.cut) {
             self.keep(node);

@@ -184,6 +184,7 @@ pub(crate) fn take<V: Copy>(tree: &mut Tree<V>, key: u64, cut: Cut) -> Option<Bo
     requires cut { IsCut cut.at cut.step }
     requires split { IsSplit cut.at cut.step tree.old }
     ensures set { IsSetAt key None tree.old tree.new }
+    ensures there { IsSome (value_at key tree.old) → IsSome result }
     ensures count { count_of tree.new + one_if result ≡ count_of tree.old }
     ensures split { IsSplit cut.at cut.step tree.new }
 {

@@ -1,7 +1,8 @@
-//! A promise that has another tree.
-ghost use Rattle.std.specs.Prelude.{◌≡◌, ℕ, Some, true};
+//! Names that come and go, and promises that have another tree, beside the names of roots.
+ghost use Rattle.std.specs.Prelude.{◌≡◌, ◌+◌, ◌<◌, ◌≤◌, ℕ, None, Some, IsSome, true, vec_len};
 ghost use Rattle.promise_names.specs.Held.{AreApart};
 ghost use Rattle.name_tree.specs.Maps.{IsMap, total_of};
+ghost use Rattle.name_tree.specs.Trees.{value_at, count_of, IsSetAt};
 ghost use Rattle.name_tree.specs.Listed.{root_in, Knows, IsRenamed};
 
 use crate::held::replace_all;
@@ -9,6 +10,48 @@ use crate::map::KeyMap;
 use crate::roots::{forget, learn, name_of};
 use kj_base::{Link, Name};
 use promise_names::Held;
+
+// A name holds this now. Answers whether each root is known.
+pub(crate) fn put(
+    names: &mut KeyMap<Held>,
+    roots: &mut KeyMap<Name>,
+    is_known: bool,
+    name: Name,
+    held: Held,
+) -> bool
+    requires names { IsMap names.old }
+    requires room { 0 < vec_len names.old.spare }
+    requires roots { IsMap roots.old }
+    requires known { is_known ≡ true → Knows names.old.tree roots.old.tree }
+    ensures set { IsSetAt name.0 (Some held) names.old.tree names.new.tree }
+    ensures names { IsMap names.new }
+    ensures cut { names.new.cut ≡ names.old.cut }
+    ensures total { total_of names.new ≡ total_of names.old }
+    ensures few { count_of names.new.tree ≤ count_of names.old.tree + 1 }
+    ensures roots { IsMap roots.new }
+    ensures known { result ≡ true → Knows names.new.tree roots.new.tree }
+{
+    forget(roots, name, names.get(name.0 as u64));
+    names.put(name.0 as u64, held);
+    learn(roots, name, held) && is_known
+}
+
+// A name goes.
+pub(crate) fn remove(names: &mut KeyMap<Held>, roots: &mut KeyMap<Name>, name: Name)
+    requires names { IsMap names.old }
+    requires roots { IsMap roots.old }
+    ensures set { IsSetAt name.0 None names.old.tree names.new.tree }
+    ensures names { IsMap names.new }
+    ensures cut { names.new.cut ≡ names.old.cut }
+    ensures total { total_of names.new ≡ total_of names.old }
+    ensures gone { IsSome (value_at name.0 names.old.tree) → count_of names.new.tree + 1 ≡ count_of names.old.tree }
+    ensures few { count_of names.new.tree ≤ count_of names.old.tree }
+    ensures roots { IsMap roots.new }
+    ensures known { Knows names.old.tree roots.old.tree → Knows names.new.tree roots.new.tree }
+{
+    forget(roots, name, names.get(name.0 as u64));
+    names.remove(name.0 as u64);
+}
 
 // The promise of this name has another tree. Answers whether its root is known.
 fn give(
@@ -26,6 +69,7 @@ fn give(
     ensures names { IsMap names.new }
     ensures cut { names.new.cut ≡ names.old.cut }
     ensures total { total_of names.new ≡ total_of names.old }
+    ensures count { count_of names.new.tree ≡ count_of names.old.tree }
     ensures roots { IsMap roots.new }
     ensures known { result ≡ true → Knows names.old.tree roots.old.tree → Knows names.new.tree roots.new.tree }
 {
@@ -51,6 +95,7 @@ pub(crate) fn rename(
     ensures names { IsMap names.new }
     ensures cut { names.new.cut ≡ names.old.cut }
     ensures total { total_of names.new ≡ total_of names.old }
+    ensures count { count_of names.new.tree ≡ count_of names.old.tree }
     ensures roots { IsMap roots.new }
     ensures known { result ≡ true → Knows names.new.tree roots.new.tree }
 {

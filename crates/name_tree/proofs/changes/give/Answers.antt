@@ -1,7 +1,7 @@
 use Rattle.std.proofs.Common.{Some}
 use Rattle.promise_names.specs.declared.names.Held.TheVariants.{Promise}
 use Rattle.name_tree.proofs.Renamed.{given_renames, knows_still}
-use Rattle.name_tree.proofs.renames.give.Goals as goal
+use Rattle.name_tree.proofs.changes.give.Goals as goal
 
 pub returns-clause-renamed : goal.returns-clause-renamed
 returns-clause-renamed c =

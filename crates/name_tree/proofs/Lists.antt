@@ -13,7 +13,7 @@ use Rattle.name_table.proofs.Replaced.{rising_replaced}
 use Rattle.name_tree.specs.declared.tree.Tree.{Tree}
 use Rattle.name_tree.specs.Trees.{value_at, IsSplit, IsSetAt}
 use Rattle.name_tree.specs.Listed.{listed, held_after, IsRenamed}
-use Rattle.name_tree.proofs.Listed.{held_listed, rising_listed}
+use Rattle.name_tree.proofs.Rises.{held_listed, rising_listed}
 use Rattle.name_tree.proofs.Same.{same_rising}
 
 pub unequal : (a b : ℕ) → nat_eq a b ≡ false → a ≡ b → ⊥
