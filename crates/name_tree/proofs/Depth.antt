@@ -6,6 +6,10 @@ use Rattle.std.proofs.lemmas.Bool.Decides.{nat_tests}
 use Rattle.name_tree.specs.declared.tree.Tree.{Tree}
 use Rattle.name_tree.specs.declared.tree.Tree.TheVariants.{Empty, Fork'}
 use Rattle.name_tree.specs.Trees.{first_of, value_at, IsSplit, Divides}
+use Rattle.name_tree.specs.declared.cut.Cut.{Cut}
+use Rattle.name_tree.specs.declared.map.KeyMap.{KeyMap}
+use Rattle.name_tree.specs.Cuts.{name_cut, root_cut}
+use Rattle.name_tree.specs.Maps.{IsMap}
 use Rattle.name_tree.specs.Depth.{depth_of}
 
 -- how many keys have so many bits
@@ -92,3 +96,17 @@ depth_le (Fork' p key value below above) (suc k) low at step halved within split
         let from = split.0.from n some in
         (from, omega (arith, w, halved.0))) split.2 in
     omega (arith, one, other)
+
+-- ---- the two maps of names
+
+pub names_depth : {V : Type 0} (m : KeyMap V) → m.cut ≡ name_cut → IsMap m → depth_of m.tree ≤ 33
+names_depth m is map =
+    let at : m.cut.at ≡ 0 + span 31 = ap (λ (c : Cut). c.at) is in
+    let step : m.cut.step ≡ span 31 / 2 = ap (λ (c : Cut). c.step) is in
+    depth_le m.tree 32 0 m.cut.at m.cut.step (at, step) (λ n some. let w = map.within n some in (omega arith, omega (arith, w, at))) map.split
+
+pub roots_depth : {V : Type 0} (m : KeyMap V) → m.cut ≡ root_cut → IsMap m → depth_of m.tree ≤ 65
+roots_depth m is map =
+    let at : m.cut.at ≡ 0 + span 63 = ap (λ (c : Cut). c.at) is in
+    let step : m.cut.step ≡ span 63 / 2 = ap (λ (c : Cut). c.step) is in
+    depth_le m.tree 64 0 m.cut.at m.cut.step (at, step) (λ n some. let w = map.within n some in (omega arith, omega (arith, w, at))) map.split

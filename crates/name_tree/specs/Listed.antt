@@ -1,5 +1,5 @@
 -- The names of a tree.
-use Rattle.std.specs.Prelude.{◌≡◌, ℕ, ◌<◌, ◌^◌, List, [], ◌∷◌, ◌++◌, Option, None, Some, IsSome}
+use Rattle.std.specs.Prelude.{◌≡◌, ℕ, List, [], ◌++◌, Option, None, Some}
 use Rattle.kj_base.specs.declared.nodes.Link.{Link}
 use Rattle.kj_base.specs.declared.numbers.Name.{Name}
 use Rattle.promise_names.specs.Held.{root_of}
@@ -14,10 +14,6 @@ use Rattle.name_tree.specs.Trees.{value_at}
 abbrev pub listed : Tree Held → List Entry
 listed Empty = []
 listed (Fork' p key value low high) = with_entry (record { name = record { 0 = key }; held = value }) (listed low ++ listed high)
-
--- each is a number of 32 bits
-abbrev pub AreNames : Tree Held → Type 0
-AreNames t = (n : ℕ) → IsSome (value_at n t) → n < 2 ^ 32
 
 -- the root that a name promises
 abbrev pub root_in : ℕ → Tree Held → Option ℕ

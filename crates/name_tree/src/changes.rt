@@ -1,6 +1,7 @@
 //! Names that come and go, and promises that have another tree, beside the names of roots.
 ghost use Rattle.std.specs.Prelude.{◌≡◌, ◌+◌, ◌<◌, ◌≤◌, ℕ, None, Some, IsSome, true, vec_len};
 ghost use Rattle.promise_names.specs.Held.{AreApart};
+ghost use Rattle.name_tree.specs.Cuts.{name_cut, root_cut};
 ghost use Rattle.name_tree.specs.Maps.{IsMap, total_of};
 ghost use Rattle.name_tree.specs.Trees.{value_at, count_of, IsSetAt};
 ghost use Rattle.name_tree.specs.Listed.{root_in, Knows, IsRenamed};
@@ -20,8 +21,10 @@ pub(crate) fn put(
     held: Held,
 ) -> bool
     requires names { IsMap names.old }
+    requires names_cut { names.old.cut ≡ name_cut }
     requires room { 0 < vec_len names.old.spare }
     requires roots { IsMap roots.old }
+    requires roots_cut { roots.old.cut ≡ root_cut }
     requires known { is_known ≡ true → Knows names.old.tree roots.old.tree }
     ensures set { IsSetAt name.0 (Some held) names.old.tree names.new.tree }
     ensures names { IsMap names.new }
@@ -29,6 +32,7 @@ pub(crate) fn put(
     ensures total { total_of names.new ≡ total_of names.old }
     ensures few { count_of names.new.tree ≤ count_of names.old.tree + 1 }
     ensures roots { IsMap roots.new }
+    ensures roots_cut { roots.new.cut ≡ roots.old.cut }
     ensures known { result ≡ true → Knows names.new.tree roots.new.tree }
 {
     forget(roots, name, names.get(name.0 as u64));
@@ -39,7 +43,9 @@ pub(crate) fn put(
 // A name goes.
 pub(crate) fn remove(names: &mut KeyMap<Held>, roots: &mut KeyMap<Name>, name: Name)
     requires names { IsMap names.old }
+    requires names_cut { names.old.cut ≡ name_cut }
     requires roots { IsMap roots.old }
+    requires roots_cut { roots.old.cut ≡ root_cut }
     ensures set { IsSetAt name.0 None names.old.tree names.new.tree }
     ensures names { IsMap names.new }
     ensures cut { names.new.cut ≡ names.old.cut }
@@ -47,6 +53,7 @@ pub(crate) fn remove(names: &mut KeyMap<Held>, roots: &mut KeyMap<Name>, name: N
     ensures gone { IsSome (value_at name.0 names.old.tree) → count_of names.new.tree + 1 ≡ count_of names.old.tree }
     ensures few { count_of names.new.tree ≤ count_of names.old.tree }
     ensures roots { IsMap roots.new }
+    ensures roots_cut { roots.new.cut ≡ roots.old.cut }
     ensures known { Knows names.old.tree roots.old.tree → Knows names.new.tree roots.new.tree }
 {
     forget(roots, name, names.get(name.0 as u64));
@@ -62,7 +69,9 @@ fn give(
     new: Link,
 ) -> bool
     requires names { IsMap names.old }
+    requires names_cut { names.old.cut ≡ name_cut }
     requires roots { IsMap roots.old }
+    requires roots_cut { roots.old.cut ≡ root_cut }
     requires apart { AreApart (λ n. root_in n names.old.tree) }
     requires has { root_in name.0 names.old.tree ≡ Some old.number.0 }
     ensures renamed { IsRenamed old.number.0 new names.old.tree names.new.tree }
@@ -71,6 +80,7 @@ fn give(
     ensures total { total_of names.new ≡ total_of names.old }
     ensures count { count_of names.new.tree ≡ count_of names.old.tree }
     ensures roots { IsMap roots.new }
+    ensures roots_cut { roots.new.cut ≡ roots.old.cut }
     ensures known { result ≡ true → Knows names.old.tree roots.old.tree → Knows names.new.tree roots.new.tree }
 {
     forget(roots, name, Some(Held::Promise(old)));
@@ -88,7 +98,9 @@ pub(crate) fn rename(
     new: Link,
 ) -> bool
     requires names { IsMap names.old }
+    requires names_cut { names.old.cut ≡ name_cut }
     requires roots { IsMap roots.old }
+    requires roots_cut { roots.old.cut ≡ root_cut }
     requires known { is_known ≡ true → Knows names.old.tree roots.old.tree }
     requires apart { AreApart (λ n. root_in n names.old.tree) }
     ensures renamed { IsRenamed old.number.0 new names.old.tree names.new.tree }
@@ -97,6 +109,7 @@ pub(crate) fn rename(
     ensures total { total_of names.new ≡ total_of names.old }
     ensures count { count_of names.new.tree ≡ count_of names.old.tree }
     ensures roots { IsMap roots.new }
+    ensures roots_cut { roots.new.cut ≡ roots.old.cut }
     ensures known { result ≡ true → Knows names.new.tree roots.new.tree }
 {
     match name_of(names, roots, old) {

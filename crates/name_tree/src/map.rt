@@ -1,5 +1,5 @@
 //! Keys with values, in memory that is taken once.
-ghost use Rattle.std.specs.Prelude.{◌≡◌, ◌+◌, ◌<◌, ◌==◌, not, ◌≤◌, vec_capacity, None, Some, IfOk, IsSome, vec_len};
+ghost use Rattle.std.specs.Prelude.{◌≡◌, ◌+◌, ◌*◌, ◌<◌, ◌==◌, not, ◌≤◌, vec_capacity, None, Some, IfOk, IsSome, vec_len};
 ghost use Rattle.name_tree.specs.Cuts.{IsCut};
 ghost use Rattle.name_tree.specs.Trees.{value_at, count_of, IsSetAt, IsLowest};
 ghost use Rattle.name_tree.specs.Maps.{IsMap, total_of};
@@ -42,6 +42,7 @@ impl<V: Copy> KeyMap<V> {
         ensures map { IfOk result (λ m. IsMap m) }
         ensures total { IfOk result (λ m. total_of m ≡ limit) }
         ensures empty { IfOk result (λ m. m.tree ≡ Empty) }
+        ensures cut { IfOk result (λ m. m.cut ≡ cut) }
     {
         Ok(KeyMap {
             tree: Tree::Empty,
@@ -88,6 +89,7 @@ impl<V: Copy> KeyMap<V> {
     pub(crate) fn put(&mut self, key: u64, value: V)
         requires map { IsMap self.old }
         requires room { 0 < vec_len self.old.spare }
+        requires fits { key < 2 * self.old.cut.at }
         ensures set { IsSetAt key (Some value) self.old.tree self.new.tree }
         ensures map { IsMap self.new }
         ensures cut { self.new.cut ≡ self.old.cut }

@@ -1,7 +1,8 @@
 //! The names of the roots that names promise.
-ghost use Rattle.std.specs.Prelude.{◌≡◌, ◌+◌, ℕ, None, Some, true, IfSome};
+ghost use Rattle.std.specs.Prelude.{◌≡◌, ℕ, None, Some, true, IfSome};
 ghost use Rattle.promise_names.specs.Held.{root_of};
-ghost use Rattle.name_tree.specs.Maps.{IsMap, total_of};
+ghost use Rattle.name_tree.specs.Cuts.{root_cut};
+ghost use Rattle.name_tree.specs.Maps.{IsMap};
 ghost use Rattle.name_tree.specs.Listed.{root_in, Knows};
 ghost use Rattle.name_tree.specs.Roots.{KeepsOthers, KeepsAll, HasName};
 
@@ -13,6 +14,7 @@ use promise_names::Held;
 pub(crate) fn forget(roots: &mut KeyMap<Name>, name: Name, held: Option<Held>)
     requires { IsMap roots.old }
     ensures map { IsMap roots.new }
+    ensures cut { roots.new.cut ≡ roots.old.cut }
     ensures others { KeepsOthers name.0 roots.old.tree roots.new.tree }
 {
     if let Some(Held::Promise(root)) = held {
@@ -24,8 +26,10 @@ pub(crate) fn forget(roots: &mut KeyMap<Name>, name: Name, held: Option<Held>)
 
 // The root of this promise has this name; no answer of true where it has another one, or no room.
 pub(crate) fn learn(roots: &mut KeyMap<Name>, name: Name, held: Held) -> bool
-    requires { IsMap roots.old }
+    requires map { IsMap roots.old }
+    requires cut { roots.old.cut ≡ root_cut }
     ensures map { IsMap roots.new }
+    ensures cut { roots.new.cut ≡ roots.old.cut }
     ensures others { KeepsAll roots.old.tree roots.new.tree }
     ensures learnt { result ≡ true → HasName name.0 (root_of (Some held)) roots.new.tree }
 {
@@ -37,8 +41,10 @@ pub(crate) fn learn(roots: &mut KeyMap<Name>, name: Name, held: Held) -> bool
 
 // The same for a root.
 fn learn_root(roots: &mut KeyMap<Name>, name: Name, root: Link) -> bool
-    requires { IsMap roots.old }
+    requires map { IsMap roots.old }
+    requires cut { roots.old.cut ≡ root_cut }
     ensures map { IsMap roots.new }
+    ensures cut { roots.new.cut ≡ roots.old.cut }
     ensures others { KeepsAll roots.old.tree roots.new.tree }
     ensures learnt { result ≡ true → HasName name.0 (Some root.number.0) roots.new.tree }
 {

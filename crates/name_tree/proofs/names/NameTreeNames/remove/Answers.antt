@@ -8,6 +8,7 @@ use Rattle.name_tree.specs.Kept.{view_of}
 use Rattle.name_tree.specs.Listed.{listed}
 use Rattle.name_tree.specs.Trees.{value_at}
 use Rattle.name_tree.proofs.Counts.{some_held, split_still}
+use Rattle.name_tree.proofs.Depth.{names_depth, roots_depth}
 use Rattle.name_tree.proofs.Lists.{gone_is}
 use Rattle.name_tree.proofs.Rises.{held_listed, length_listed}
 use Rattle.name_tree.proofs.names.NameTreeNames.remove.Goals as goal
@@ -20,6 +21,26 @@ list_is c =
     let new = c.remove.new.names in
     gone_is names.cut.at names.cut.step c.args.name.0 names.tree new.tree c.self.invariant.names.split
     (split_still new.tree names.cut new.cut c.remove.ensures.cut c.remove.ensures.names.split) c.remove.ensures.set
+
+pub invariant_of-self : goal.invariant_of-self
+invariant_of-self c =
+    let kept = c.self.invariant in
+    let new = c.remove.new in
+    let e = c.remove.ensures in
+    let names_cut = e.cut ∙ kept.names_cut in
+    let roots_cut = e.roots_cut ∙ kept.roots_cut in
+    record {
+      names = e.names;
+      names_cut = names_cut;
+      names_depth = names_depth new.names names_cut e.names;
+      all = e.total ∙ kept.all;
+      counted = kept.counted;
+      roots = e.roots;
+      roots_cut = roots_cut;
+      roots_depth = roots_depth new.roots roots_cut e.roots;
+      known = λ is. e.known (kept.known is);
+      room_over = kept.room_over;
+    }
 
 pub returns-clause-stands : goal.returns-clause-stands
 returns-clause-stands c w st =

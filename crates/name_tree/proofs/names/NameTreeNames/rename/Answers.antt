@@ -8,6 +8,7 @@ use Rattle.name_table.proofs.Replaced.{roots_are}
 use Rattle.name_tree.specs.Kept.{view_of}
 use Rattle.name_tree.specs.Listed.{listed, root_in}
 use Rattle.name_tree.proofs.Counts.{split_still}
+use Rattle.name_tree.proofs.Depth.{names_depth, roots_depth}
 use Rattle.name_tree.proofs.Lists.{renamed_is}
 use Rattle.name_tree.proofs.Rises.{held_listed, length_listed}
 use Rattle.name_tree.proofs.names.NameTreeNames.rename.Goals as goal
@@ -27,6 +28,26 @@ rename-self-inside-requires-clause-apart c name other root is too =
     let apart : AreApart (root_at (view_of c.self.inside)) = subst (λ (t : Table). AreApart (root_at t)) (sym c.self.view_is) c.requires.apart in
     let held = held_listed names.tree names.cut.at names.cut.step c.self.invariant.names.split in
     apart name other root (ap root_of (held name) ∙ is) (ap root_of (held other) ∙ too)
+
+pub invariant_of-self : goal.invariant_of-self
+invariant_of-self c =
+    let kept = c.self.invariant in
+    let new = c.rename-self-inside.new in
+    let e = c.rename-self-inside.ensures in
+    let names_cut = e.cut ∙ kept.names_cut in
+    let roots_cut = e.roots_cut ∙ kept.roots_cut in
+    record {
+      names = e.names;
+      names_cut = names_cut;
+      names_depth = names_depth new.names names_cut e.names;
+      all = e.total ∙ kept.all;
+      counted = kept.counted;
+      roots = e.roots;
+      roots_cut = roots_cut;
+      roots_depth = roots_depth new.roots roots_cut e.roots;
+      known = e.known;
+      room_over = kept.room_over;
+    }
 
 pub returns-clause-stands : goal.returns-clause-stands
 returns-clause-stands c w st =

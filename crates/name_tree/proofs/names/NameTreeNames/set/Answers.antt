@@ -6,6 +6,7 @@ use Rattle.name_table.proofs.Calls.{with_entries, set_stands, set_root}
 use Rattle.name_tree.specs.Kept.{view_of}
 use Rattle.name_tree.specs.Listed.{listed}
 use Rattle.name_tree.proofs.Counts.{split_still}
+use Rattle.name_tree.proofs.Depth.{names_depth, roots_depth}
 use Rattle.name_tree.proofs.Lists.{put_is}
 use Rattle.name_tree.proofs.Rises.{length_listed}
 use Rattle.name_tree.proofs.names.NameTreeNames.set.Goals as goal
@@ -23,6 +24,26 @@ pub put-self-inside-requires-clause-room : goal.put-self-inside-requires-clause-
 put-self-inside-requires-clause-room c =
     let room : length (listed c.self.inside.names.tree) < c.self.inside.limit = subst (λ (t : Table). length t.entries < t.limit) (sym c.self.view_is) c.requires.room in
     omega (arith, room, length_listed c.self.inside.names.tree, c.self.invariant.all)
+
+pub invariant_of-self : goal.invariant_of-self
+invariant_of-self c =
+    let kept = c.self.invariant in
+    let new = c.put-self-inside.new in
+    let e = c.put-self-inside.ensures in
+    let names_cut = e.cut ∙ kept.names_cut in
+    let roots_cut = e.roots_cut ∙ kept.roots_cut in
+    record {
+      names = e.names;
+      names_cut = names_cut;
+      names_depth = names_depth new.names names_cut e.names;
+      all = e.total ∙ kept.all;
+      counted = kept.counted;
+      roots = e.roots;
+      roots_cut = roots_cut;
+      roots_depth = roots_depth new.roots roots_cut e.roots;
+      known = e.known;
+      room_over = kept.room_over;
+    }
 
 pub returns-clause-stands : goal.returns-clause-stands
 returns-clause-stands c w st listless =
