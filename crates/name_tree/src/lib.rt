@@ -13,3 +13,6 @@ pub use cut::Cut;
 pub use map::KeyMap;
 pub use names::NameTree;
 pub use tree::{Node, Tree};
+
+#[cfg(test)]
+mod tests;
