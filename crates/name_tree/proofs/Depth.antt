@@ -88,13 +88,13 @@ depth_le (Fork' p key value below above) zero low at step halved within split =
     omega (arith, one, other)
 depth_le (Fork' p key value below above) (suc k) low at step halved within split =
     let one = depth_le below k low (at - step) (step / 2) (halved_low k low at step halved.0 halved.1) (λ n some.
-        let w = within n (below_is p key value below above n (nat_eq key n) refl (some_first (value_at n below) (value_at n above) some)) in
-        let less = split.0.below n some in
-        (w.0, omega (arith, less, halved.0))) split.1 in
+    let w = within n (below_is p key value below above n (nat_eq key n) refl (some_first (value_at n below) (value_at n above) some)) in
+    let less = split.0.below n some in
+    (w.0, omega (arith, less, halved.0))) split.1 in
     let other = depth_le above k at (at + step) (step / 2) (halved_high k low at step halved.0 halved.1) (λ n some.
-        let w = within n (below_is p key value below above n (nat_eq key n) refl (some_second (value_at n below) (value_at n above) some)) in
-        let from = split.0.from n some in
-        (from, omega (arith, w, halved.0))) split.2 in
+    let w = within n (below_is p key value below above n (nat_eq key n) refl (some_second (value_at n below) (value_at n above) some)) in
+    let from = split.0.from n some in
+    (from, omega (arith, w, halved.0))) split.2 in
     omega (arith, one, other)
 
 -- ---- the two maps of names

@@ -9,10 +9,7 @@ mod names;
 mod roots;
 mod tree;
 
-pub use cut::Cut;
-pub use map::KeyMap;
 pub use names::NameTree;
-pub use tree::{Node, Tree};
 
 #[cfg(test)]
 mod tests;

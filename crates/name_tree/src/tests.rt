@@ -56,7 +56,10 @@ fn calls_do_what_those_of_a_table_do(rt: HostRuntime) -> Result<(), Fail> {
         run(&mut names, call, number);
         run(&mut table, call, number);
         let other = Name(next(call) & NAME_BITS);
-        assert_eq!(rt; names.get(Name(call & NAME_BITS)), table.get(Name(call & NAME_BITS)));
+        assert_eq!(rt;
+            names.get(Name(call & NAME_BITS)),
+            table.get(Name(call & NAME_BITS))
+        );
         assert_eq!(rt; names.get(other), table.get(other));
         assert_eq!(rt; names.first(), table.first());
         assert_eq!(rt; names.len(), table.len());
