@@ -16,3 +16,8 @@ KeepsAll old new = (root other : ℕ) → value_at root old ≡ Some (record { 0
 abbrev pub HasName : ℕ → Option ℕ → Tree Name → Type 0
 HasName name None roots = Unit {0}
 HasName name (Some root) roots = value_at root roots ≡ Some (record { 0 = name })
+
+-- this root, where there is one, has no name
+abbrev pub HasNoName : Option ℕ → Tree Name → Type 0
+HasNoName None roots = Unit {0}
+HasNoName (Some root) roots = value_at root roots ≡ None
