@@ -1,11 +1,11 @@
 -- A tree that is divided in halves is no deeper than its keys have bits.
-use Rattle.std.proofs.Common.{◌≡◌, ℕ, zero, suc, ◌+◌, ◌-◌, ◌*◌, ◌/◌, ◌<◌, ◌≤◌, max, Box, Global, Bool, true, false, Option, None, Some, refl, sym, ap, ◌∙◌, subst, arith}
+use Rattle.std.proofs.Common.{◌≡◌, ℕ, zero, suc, ◌+◌, ◌-◌, ◌*◌, ◌/◌, ◌<◌, ◌≤◌, Box, Global, Bool, true, false, Option, None, Some, refl, ap, ◌∙◌, subst, arith}
 use Rattle.std.specs.Prelude.{nat_eq, IsSome}
 use Rattle.std.proofs.Math.Nat.{mul-div_cancel_left}
 use Rattle.std.proofs.lemmas.Bool.Decides.{nat_tests}
 use Rattle.name_tree.specs.declared.tree.Tree.{Tree}
 use Rattle.name_tree.specs.declared.tree.Tree.TheVariants.{Empty, Fork'}
-use Rattle.name_tree.specs.Trees.{first_of, value_at, IsSplit, Divides}
+use Rattle.name_tree.specs.Trees.{first_of, value_at, IsSplit}
 use Rattle.name_tree.specs.declared.cut.Cut.{Cut}
 use Rattle.name_tree.specs.declared.map.KeyMap.{KeyMap}
 use Rattle.name_tree.specs.Cuts.{name_cut, root_cut}

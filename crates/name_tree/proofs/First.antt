@@ -9,7 +9,7 @@ use Rattle.name_table.specs.Entries.{IsRising, held_in, names_of}
 use Rattle.name_table.proofs.Ranks.{none_above, above_lower, lower_is}
 use Rattle.name_table.proofs.Rising.{equal}
 use Rattle.name_tree.specs.declared.tree.Tree.{Tree}
-use Rattle.name_tree.specs.Trees.{value_at, IsSplit, IsLowest}
+use Rattle.name_tree.specs.Trees.{IsSplit, IsLowest}
 use Rattle.name_tree.specs.Listed.{listed}
 use Rattle.name_tree.proofs.Rises.{held_listed, rising_listed}
 

@@ -1,12 +1,12 @@
 -- The list of a tree that was changed under one name, or under each.
-use Rattle.std.proofs.Common.{◌≡◌, ℕ, Bool, true, false, List, [], ◌∷◌, Option, None, Some, map, refl, sym, ap, ◌∙◌, subst, arith}
+use Rattle.std.proofs.Common.{◌≡◌, ℕ, Bool, true, false, List, [], ◌∷◌, None, Some, map, refl, sym, ap, ◌∙◌, subst, arith}
 use Rattle.std.specs.Prelude.{nat_eq}
 use Rattle.std.proofs.lemmas.Bool.{false≢true}
 use Rattle.std.proofs.lemmas.Bool.Decides.{nat_tests}
 use Rattle.kj_base.specs.declared.nodes.Link.{Link}
 use Rattle.promise_names.specs.declared.names.Held.{Held}
 use Rattle.name_table.specs.declared.entries.Entry.{Entry}
-use Rattle.name_table.specs.Entries.{IsRising, held_in, without_entry, entered, held_replaced, entry_replaced}
+use Rattle.name_table.specs.Entries.{held_in, without_entry, entered, entry_replaced}
 use Rattle.name_table.proofs.Ranks.{same_is}
 use Rattle.name_table.proofs.Rising.{rising_entered, rising_without, entered_self, entered_other, held_gone, held_kept, swapped}
 use Rattle.name_table.proofs.Replaced.{rising_replaced}

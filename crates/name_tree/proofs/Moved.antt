@@ -1,5 +1,5 @@
 -- A node's key is gone where one from below took its place.
-use Rattle.std.proofs.Common.{◌≡◌, ℕ, Box, Global, Some, sym, subst}
+use Rattle.std.proofs.Common.{◌≡◌, ℕ, Box, Global, sym, subst}
 use Rattle.name_tree.specs.declared.tree.Tree.{Tree}
 use Rattle.name_tree.specs.declared.tree.Node.{Node}
 use Rattle.name_tree.specs.declared.tree.Tree.TheVariants.{Fork}

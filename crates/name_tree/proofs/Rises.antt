@@ -1,5 +1,5 @@
 -- The names of a tree stand in its list, by rising name.
-use Rattle.std.proofs.Common.{◌≡◌, ℕ, Box, Global, zero, suc, ◌+◌, ◌-◌, ◌/◌, ◌<◌, ◌≤◌, Bool, true, false, List, [], ◌∷◌, ◌++◌, Option, None, Some, length, refl, sym, ap, ◌∙◌, subst, arith, length-append}
+use Rattle.std.proofs.Common.{◌≡◌, ℕ, Box, Global, ◌+◌, ◌-◌, ◌/◌, ◌<◌, ◌≤◌, Bool, true, false, List, [], ◌∷◌, ◌++◌, Option, None, Some, length, refl, ◌∙◌, subst, arith, length-append}
 use Rattle.std.specs.Prelude.{nat_eq, nat_lt, IsSome}
 use Rattle.std.specs.List.{AllByRecursion}
 use Rattle.promise_names.specs.declared.names.Held.{Held}

@@ -1,12 +1,11 @@
 -- Lists of rising names are one where each name holds the same.
-use Rattle.std.proofs.Common.{◌≡◌, ℕ, ◌<◌, Bool, true, false, List, [], ◌∷◌, Option, None, Some, refl, sym, ap, ◌∙◌, subst, arith}
+use Rattle.std.proofs.Common.{◌≡◌, ℕ, ◌<◌, Bool, true, false, List, [], ◌∷◌, Option, None, Some, refl, sym, ap, ◌∙◌, subst}
 use Rattle.std.specs.Prelude.{nat_eq, nat_lt}
-use Rattle.std.specs.List.{AllByRecursion}
 use Rattle.promise_names.specs.declared.names.Held.{Held}
 use Rattle.name_table.specs.declared.entries.Entry.{Entry}
 use Rattle.name_table.specs.Entries.{IsRising, held_in}
 use Rattle.name_table.proofs.Ranks.{AreAbove, above_lower, none_above, lower_is, other_is_above, same_is}
-use Rattle.name_table.proofs.Rising.{equal, some_none, swapped}
+use Rattle.name_table.proofs.Rising.{equal, some_none}
 
 held_first : (e : Entry) (es : List Entry) → held_in e.name.0 (e ∷ es) ≡ Some e.held
 held_first e es = rw (equal e.name.0) refl

@@ -1,5 +1,5 @@
 -- What a contract sees of a `NameTree`.
-use Rattle.std.specs.Prelude.{◌≡◌, ℕ, ◌<◌, ◌≤◌, ◌^◌, Bool, true, vec_capacity}
+use Rattle.std.specs.Prelude.{◌≡◌, ◌<◌, ◌≤◌, ◌^◌, true, vec_capacity}
 use Rattle.name_table.specs.Table.{Table}
 use Rattle.name_tree.specs.declared.names.NameTree.TheInside.{Inside}
 use Rattle.name_tree.specs.Listed.{listed, Knows}
@@ -11,7 +11,7 @@ use Rattle.name_tree.specs.Maps.{IsMap, total_of}
 abbrev pub view_of : Inside → Table
 view_of t = record { entries = listed t.names.tree; limit = t.limit; awaited = t.awaited; over = t.over.items; stopped = t.stopped }
 
--- there may be as many names as a `u32` counts, each root has its name where all are known, and no tree is deeper than its keys have bits
+-- there may be as many names as a `u32` counts, and as many roots, each root has its name where all are known, and no tree is deeper than its keys have bits
 pub record IsKept (t : Inside) : Type 0 where
   pub names : IsMap t.names
   pub names_cut : t.names.cut ≡ name_cut
@@ -21,5 +21,6 @@ pub record IsKept (t : Inside) : Type 0 where
   pub roots : IsMap t.roots
   pub roots_cut : t.roots.cut ≡ root_cut
   pub roots_depth : depth_of t.roots.tree ≤ 65
+  pub all_roots : total_of t.roots ≡ t.limit
   pub known : t.is_known ≡ true → Knows t.names.tree t.roots.tree
   pub room_over : 2 ≤ vec_capacity t.over

@@ -1,5 +1,5 @@
 -- The names of roots, where a name comes or goes.
-use Rattle.std.specs.Prelude.{◌≡◌, ℕ, Option, None, Some, Bool, true}
+use Rattle.std.specs.Prelude.{◌≡◌, ℕ, Option, None, Some}
 use Rattle.kj_base.specs.declared.numbers.Name.{Name}
 use Rattle.name_tree.specs.declared.tree.Tree.{Tree}
 use Rattle.name_tree.specs.Trees.{value_at}

@@ -33,6 +33,7 @@ pub(crate) fn put(
     ensures few { count_of names.new.tree ≤ count_of names.old.tree + 1 }
     ensures roots { IsMap roots.new }
     ensures roots_cut { roots.new.cut ≡ roots.old.cut }
+    ensures roots_total { total_of roots.new ≡ total_of roots.old }
     ensures known { result ≡ true → Knows names.new.tree roots.new.tree }
 {
     forget(roots, name, names.get(name.0 as u64));
@@ -54,6 +55,7 @@ pub(crate) fn remove(names: &mut KeyMap<Held>, roots: &mut KeyMap<Name>, name: N
     ensures few { count_of names.new.tree ≤ count_of names.old.tree }
     ensures roots { IsMap roots.new }
     ensures roots_cut { roots.new.cut ≡ roots.old.cut }
+    ensures roots_total { total_of roots.new ≡ total_of roots.old }
     ensures known { Knows names.old.tree roots.old.tree → Knows names.new.tree roots.new.tree }
 {
     forget(roots, name, names.get(name.0 as u64));
@@ -81,6 +83,7 @@ fn give(
     ensures count { count_of names.new.tree ≡ count_of names.old.tree }
     ensures roots { IsMap roots.new }
     ensures roots_cut { roots.new.cut ≡ roots.old.cut }
+    ensures roots_total { total_of roots.new ≡ total_of roots.old }
     ensures known { result ≡ true → Knows names.old.tree roots.old.tree → Knows names.new.tree roots.new.tree }
 {
     forget(roots, name, Some(Held::Promise(old)));
@@ -110,6 +113,7 @@ pub(crate) fn rename(
     ensures count { count_of names.new.tree ≡ count_of names.old.tree }
     ensures roots { IsMap roots.new }
     ensures roots_cut { roots.new.cut ≡ roots.old.cut }
+    ensures roots_total { total_of roots.new ≡ total_of roots.old }
     ensures known { result ≡ true → Knows names.new.tree roots.new.tree }
 {
     match name_of(names, roots, old) {

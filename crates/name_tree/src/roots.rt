@@ -2,7 +2,7 @@
 ghost use Rattle.std.specs.Prelude.{◌≡◌, ◌<◌, ℕ, None, Some, true, IfSome, vec_len};
 ghost use Rattle.promise_names.specs.Held.{root_of};
 ghost use Rattle.name_tree.specs.Cuts.{root_cut};
-ghost use Rattle.name_tree.specs.Maps.{IsMap};
+ghost use Rattle.name_tree.specs.Maps.{IsMap, total_of};
 ghost use Rattle.name_tree.specs.Trees.{value_at};
 ghost use Rattle.name_tree.specs.Listed.{root_in, Knows};
 ghost use Rattle.name_tree.specs.Roots.{KeepsOthers, KeepsAll, HasName, HasNoName};
@@ -16,6 +16,7 @@ pub(crate) fn forget(roots: &mut KeyMap<Name>, name: Name, held: Option<Held>)
     requires { IsMap roots.old }
     ensures map { IsMap roots.new }
     ensures cut { roots.new.cut ≡ roots.old.cut }
+    ensures total { total_of roots.new ≡ total_of roots.old }
     ensures others { KeepsOthers name.0 roots.old.tree roots.new.tree }
     ensures gone { (root : ℕ) → root_of held ≡ Some root → value_at root roots.new.tree ≡ Some name → ⊥ }
 {
@@ -32,6 +33,7 @@ pub(crate) fn learn(roots: &mut KeyMap<Name>, name: Name, held: Held) -> bool
     requires cut { roots.old.cut ≡ root_cut }
     ensures map { IsMap roots.new }
     ensures cut { roots.new.cut ≡ roots.old.cut }
+    ensures total { total_of roots.new ≡ total_of roots.old }
     ensures others { KeepsAll roots.old.tree roots.new.tree }
     ensures learnt { result ≡ true → HasName name.0 (root_of (Some held)) roots.new.tree }
     ensures sure { HasNoName (root_of (Some held)) roots.old.tree → 0 < vec_len roots.old.spare → result ≡ true }
@@ -48,6 +50,7 @@ fn learn_root(roots: &mut KeyMap<Name>, name: Name, root: Link) -> bool
     requires cut { roots.old.cut ≡ root_cut }
     ensures map { IsMap roots.new }
     ensures cut { roots.new.cut ≡ roots.old.cut }
+    ensures total { total_of roots.new ≡ total_of roots.old }
     ensures others { KeepsAll roots.old.tree roots.new.tree }
     ensures learnt { result ≡ true → HasName name.0 (Some root.number.0) roots.new.tree }
     ensures sure { HasNoName (Some root.number.0) roots.old.tree → 0 < vec_len roots.old.spare → result ≡ true }

@@ -1,5 +1,4 @@
 use Rattle.std.proofs.Common.{None, Some, sym, subst, ap, ◌∙◌}
-use Rattle.kj_model.specs.World.{Named}
 use Rattle.promise_names.specs.Held.{first_name}
 use Rattle.name_table.specs.Table.{Table, Stands}
 use Rattle.name_tree.specs.Kept.{view_of}

@@ -1,4 +1,4 @@
-use Rattle.std.proofs.Common.{◌≡◌, ℕ, List, map, length, sym, subst, ap, ◌∙◌, arith}
+use Rattle.std.proofs.Common.{◌≡◌, List, map, length, sym, subst, ap, ◌∙◌, arith}
 use Rattle.promise_names.specs.Held.{AreApart, root_of, root_renamed}
 use Rattle.name_table.specs.declared.entries.Entry.{Entry}
 use Rattle.name_table.specs.Entries.{held_in, entry_replaced}
@@ -6,7 +6,7 @@ use Rattle.name_table.specs.Table.{Table, Stands, root_at}
 use Rattle.name_table.proofs.Calls.{rename_stands}
 use Rattle.name_table.proofs.Replaced.{roots_are}
 use Rattle.name_tree.specs.Kept.{view_of}
-use Rattle.name_tree.specs.Listed.{listed, root_in}
+use Rattle.name_tree.specs.Listed.{listed}
 use Rattle.name_tree.proofs.Counts.{split_still}
 use Rattle.name_tree.proofs.Depth.{names_depth, roots_depth}
 use Rattle.name_tree.proofs.Lists.{renamed_is}
@@ -45,6 +45,7 @@ invariant_of-self c =
       roots = e.roots;
       roots_cut = roots_cut;
       roots_depth = roots_depth new.roots roots_cut e.roots;
+      all_roots = e.roots_total ∙ kept.all_roots;
       known = e.known;
       room_over = kept.room_over;
     }

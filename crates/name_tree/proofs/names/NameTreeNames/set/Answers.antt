@@ -41,6 +41,7 @@ invariant_of-self c =
       roots = e.roots;
       roots_cut = roots_cut;
       roots_depth = roots_depth new.roots roots_cut e.roots;
+      all_roots = e.roots_total ∙ kept.all_roots;
       known = e.known;
       room_over = kept.room_over;
     }
