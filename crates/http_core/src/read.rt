@@ -95,7 +95,12 @@ fn read_sized(head: RuledHead, mut lengths: Lengths, piece: &[u8]) -> Result<Req
 }
 
 // Reads the next octets of a body in chunks.
-fn read_chunked(head: RuledHead, mut chunks: Chunks, piece: &[u8]) -> Result<RequestRead, NoMemory>
+fn read_chunked(
+    spare: &mut Spare,
+    head: RuledHead,
+    mut chunks: Chunks,
+    piece: &[u8],
+) -> Result<RequestRead, NoMemory>
     requires { chunks.phase ≡ Phase.Going }
     ensures ready { IfOk result IsReadyRead }
     ensures steps { IfOk result (λ step. framing_of head ≡ framings.Chunked → (behind : List ℕ)
@@ -104,7 +109,8 @@ fn read_chunked(head: RuledHead, mut chunks: Chunks, piece: &[u8]) -> Result<Req
     match chunks.feed(piece)? {
         Frame::More => Ok(RequestRead::More(Part::Chunked(head, chunks))),
         Frame::Whole(count) => {
-            let body = chunks.body();
+            let (body, kept) = chunks.into_parts();
+            spare.keep_line(kept);
             let request = head.with_body(body);
             Ok(RequestRead::Whole(request, piece.len().saturating_sub(count)))
         }
@@ -131,7 +137,9 @@ fn read_behind(
             read_sized(head, Lengths::new_in(spare.take_body(alloc), size), behind)
         }
         Framing::Chunked => {
-            read_chunked(head, Chunks::new_in(alloc, spare.take_body(alloc)), behind)
+            let body = spare.take_body(alloc);
+            let chunks = Chunks::new_in(alloc, body, spare.take_line(alloc));
+            read_chunked(spare, head, chunks, behind)
         }
         Framing::Fault(code) => Ok(RequestRead::Fault(code)),
     }
@@ -316,6 +324,6 @@ pub fn read_on(
         Part::Head(octets) => read_in_head(alloc, spare, octets, piece),
         Part::Crowded(len) => Ok(read_in_crowd(len, piece)),
         Part::Sized(head, lengths) => read_sized(head, lengths, piece),
-        Part::Chunked(head, chunks) => read_chunked(head, chunks, piece),
+        Part::Chunked(head, chunks) => read_chunked(spare, head, chunks, piece),
     }
 }

@@ -17,6 +17,7 @@ pub struct Spare {
     pub head: Head,
     body: Bytes,
     octets: Bytes,
+    line: Bytes,
 }
 
 impl Spare {
@@ -26,6 +27,7 @@ impl Spare {
             head: Head::new(alloc),
             body: Bytes::new(alloc),
             octets: Bytes::new(alloc),
+            line: Bytes::new(alloc),
         }
     }
 
@@ -43,6 +45,16 @@ impl Spare {
         let mut body = mem::replace(&mut self.body, Bytes::new(alloc));
         body.truncate(0);
         body
+    }
+
+    /// Memory for what a decoder of chunks keeps between pieces. Takes none.
+    pub fn take_line(&mut self, alloc: Global) -> Bytes {
+        mem::replace(&mut self.line, Bytes::new(alloc))
+    }
+
+    /// Keeps the memory that such a decoder gives back.
+    pub fn keep_line(&mut self, line: Bytes) {
+        self.line = line;
     }
 
     /// A copy of these octets.

@@ -38,16 +38,17 @@ impl Chunks {
         ensures going { result.phase ≡ Phase.Going }
         ensures fed { IsFed result [] }
     {
-        Chunks::new_in(alloc, Bytes::new(alloc))
+        Chunks::new_in(alloc, Bytes::new(alloc), Bytes::new(alloc))
     }
 
-    /// The same with the body in the memory of these octets, which are dropped.
-    pub fn new_in(alloc: Global, memory: Bytes) -> Chunks
+    /// The same in the memory of these octets, which are dropped: the first's for the body, and the
+    /// second's for what else is kept between pieces.
+    pub fn new_in(alloc: Global, body: Bytes, kept: Bytes) -> Chunks
         ensures going { result.phase ≡ Phase.Going }
         ensures fed { IsFed result [] }
     {
         Chunks {
-            reader: Reader::new(alloc, memory),
+            reader: Reader::new(alloc, body, kept),
             trailer: Fields::new(alloc),
             phase: Phase::Going,
         }
@@ -82,6 +83,15 @@ impl Chunks {
         ensures { result ≡ self.body }
     {
         self.reader.body
+    }
+
+    /// The same, and memory for what the next decoder keeps.
+    pub fn into_parts(self) -> (Bytes, Bytes)
+        requires { self.phase ≡ Phase.Done }
+        ensures { result.0 ≡ self.body }
+    {
+        let Reader { body, pending, .. } = self.reader;
+        (body, pending)
     }
 }
 

@@ -109,17 +109,19 @@ impl Reader {
     ghost use Rattle.http_frames.specs.Pieces.{IsSoundReader, IsReadBy, ReadsPiece, IsProgress, TookAll};
     ghost use Rattle.http_frames.specs.declared.reader.Stage.TheVariants.{Line, LineEnd, Data, DataCr, DataLf, Trailer, Crowded};
 
-    /// The body is read into the memory of these octets, which are dropped.
-    pub fn new(alloc: Global, mut memory: Bytes) -> Reader
+    /// The body is read into the memory of these octets, which are dropped, and what is kept beside
+    /// it into that of the others.
+    pub fn new(alloc: Global, mut body: Bytes, mut kept: Bytes) -> Reader
         ensures sound { IsSoundReader result }
         ensures read { IsReadBy result [] }
         ensures body { result.body ≡ [] }
     {
-        memory.truncate(0);
+        body.truncate(0);
+        kept.truncate(0);
         Reader {
             alloc,
-            body: memory,
-            pending: Bytes::new(alloc),
+            body,
+            pending: kept,
             stage: Stage::Line,
         }
     }
@@ -133,6 +135,7 @@ impl Reader {
         ensures some { IfOk result (λ taken. IfSome taken (λ n. (0 < n)
             × ReadsPiece self.old piece.now self.new (Intake.Took n))) }
         ensures none { IfOk result (λ taken. IfNone taken (self.new ≡ self.old)) }
+        ensures line { IfOk result (λ _. (self.new.stage ≡ Line) × (self.new.pending ≡ [])) }
     {
         let room = MAX_BODY - self.body.len();
         let Some((line, octets)) = whole_chunk(piece, room) else {
@@ -140,6 +143,22 @@ impl Reader {
         };
         self.body.extend(octets)?;
         Ok(Some(line.len() + octets.len() + 4))
+    }
+
+    // Takes the chunks at the front that the piece has as a whole, as far as nothing of a line came
+    // before. That there are none says nothing of the piece.
+    fn take_chunks(&mut self, piece: &[u8]) -> Result<usize, NoMemory>
+        requires sound { IsSoundReader self.old }
+        requires stage { self.old.stage ≡ Line }
+        requires bare { self.old.pending ≡ [] }
+        ensures took { IfOk result (λ n. ReadsPiece self.old piece.now self.new (Intake.Took n)) }
+        ensures none { IfOk result (λ n. n ≡ 0 → self.new ≡ self.old) }
+    {
+        let mut at = 0;
+        while let Some(count) = self.take_chunk(&piece[at..])? {
+            at += count;
+        }
+        Ok(at)
     }
 
     // Takes the front of a piece at the line of a chunk.
@@ -153,9 +172,9 @@ impl Reader {
         if !self.pending.is_empty() {
             return self.take_line(piece);
         }
-        match self.take_chunk(piece)? {
-            Some(count) => Ok(Intake::Took(count)),
-            None => self.take_line(piece),
+        match self.take_chunks(piece)? {
+            0 => self.take_line(piece),
+            count => Ok(Intake::Took(count)),
         }
     }
 

@@ -64,7 +64,7 @@ fn read_chunks(
     start: usize,
     cuts: &[usize],
 ) -> Result<(Read, Bytes), NoMemory> {
-    let mut chunks = Chunks::new_in(alloc, used(alloc)?);
+    let mut chunks = Chunks::new_in(alloc, used(alloc)?, used(alloc)?);
     let mut at = start;
     for cut in cuts {
         match feed_chunks(&mut chunks, between(text, at, *cut))? {

@@ -35,12 +35,15 @@ pub fn memory_keeps_loops_running()
 {}
 
 /// A turn answers that there was no memory just where it stops a loop that runs, and then some step finds none
-/// after all that was told; the same of the last turn of a run.
+/// after all that was told. So it is with a run of turns, and a wait answers it only there.
 pub fn only_a_lack_stops()
     ensures turn { (setting : Setting) (s : State)
         → (turn setting s).1 ≡ NoMemory → LacksMemory setting (turn setting s).0.past }
     ensures run { (setting : Setting) (turns : ℕ) (s : State)
         → (run setting turns s).1 ≡ NoMemory → LacksMemory setting (run setting turns s).0.past }
+    ensures wait { (setting : Setting) (name turns : ℕ) (s : State)
+        → (wait setting name turns s).1 ≡ WaitNoMemory
+        → LacksMemory setting (wait setting name turns s).0.past }
     ensures told { (setting : Setting) (s : State) → s.world.stopped ≡ false
         → (turn setting s).0.world.stopped ≡ true → (turn setting s).1 ≡ NoMemory }
     ensures stopped { (setting : Setting) (s : State)

@@ -1,4 +1,1 @@
-pub mod ScriptText
-pub mod Items
-pub mod Told
 pub mod Running

@@ -1,77 +1,128 @@
-//! A line from its words.
-ghost use Rattle.std.specs.Prelude.{◌≡◌, List, [], ◌∷◌, IfSome, IfNone, map};
-ghost use Rattle.loop_core.specs.declared.asking.Line.{Line};
-ghost use Rattle.kj_script.specs.ScriptText.{line_words, LineFits};
+//! The lines of a script.
+ghost use Rattle.std.specs.Prelude.{◌≡◌, [], ◌∷◌, List, OnOk, IfOk};
+ghost use Rattle.kj_model.specs.Calls.{turn};
+ghost use Rattle.kj_model.specs.Log.{Body, Do, Logged, WasIdle, log_line, logged, run_lines, setting_of, turned_line};
+ghost use Rattle.loop_core.specs.Loops.{StandsAt};
+ghost use Rattle.promise_commands.specs.Commands.{command_of};
+ghost use Rattle.promise_commands.specs.Scripts.{line_of};
+ghost use Rattle.promise_steps.specs.Kept.{told_by};
+ghost use Rattle.promise_turns.specs.Turns.{turned_of};
+ghost use Rattle.kj_script.specs.Running.{Shows};
 
-use crate::fields::{read_name, read_step};
-use kj_base::is_word;
-use loop_core::{Command, Line};
+use kj_base::{Bytes, NoMemory};
+use loop_core::{LoopOver, Turned};
+use promise_commands::{Command, Line, NumberedLine};
+use promise_names::Names;
+use promise_nodes::Nodes;
+use promise_steps::{ScriptSteps, print_idle, print_refused};
 
-/// The line that these words are.
-pub fn line_of(words: &[&[u8]]) -> Option<Line>
-    ensures found { IfSome result (λ line. LineFits line
-        × (map (λ w. w.now) words.now ≡ line_words line)) }
-    ensures none { IfNone result
-        ((line : Line) → LineFits line → map (λ w. w.now) words.now ≡ line_words line → ⊥) }
+// A command, with what it told, and why it was refused.
+fn do_command<N: Nodes + Drop, M: Names + Drop>(
+    over: &mut LoopOver<N, M>,
+    steps: &mut ScriptSteps,
+    text: &mut Bytes,
+    number: u32,
+    command: &Command,
+) -> Result<(), NoMemory>
+    ensures { OnOk result ((bodies : List Body) (l : Logged)
+        → Shows bodies (StandsAt N.rule (N.stands over.old.nodes) (M.stands over.old.names))
+        (told_by steps.old) text.old l
+        → Shows bodies (StandsAt N.rule (N.stands over.new.nodes) (M.stands over.new.names))
+        (told_by steps.new) text.new
+        (log_line (setting_of N.rule bodies) number (Do (command_of command.now)) l)) }
 {
-    match words {
-        [] => None,
-        [word] => one_word(word),
-        [word, a] => two_words(word, a),
-        [_, _, _] => None,
-        [_, _, _, _] => None,
-        [word, a, b, value, error] => five_words(word, a, b, value, error),
-        [_, _, _, _, _, _, ..] => None,
+    let applied = over.apply(command.copy(), steps);
+    steps.drain_into(text)?;
+    match applied {
+        Ok(()) => Ok(()),
+        Err(refused) => print_refused(text, number, refused),
     }
 }
 
-// The line that one word is.
-fn one_word(word: &[u8]) -> Option<Line>
-    ensures found { IfSome result (λ line. LineFits line × (word.now ∷ [] ≡ line_words line)) }
-    ensures none { IfNone result ((line : Line) → LineFits line → word.now ∷ [] ≡ line_words line
-        → ⊥) }
+// One turn, with what it told.
+fn make_turn<N: Nodes + Drop, M: Names + Drop>(
+    over: &mut LoopOver<N, M>,
+    steps: &mut ScriptSteps,
+    text: &mut Bytes,
+) -> Result<Turned, NoMemory>
+    ensures turned { IfOk result (λ turned. (bodies : List Body) (l : Logged)
+        → Shows bodies (StandsAt N.rule (N.stands over.old.nodes) (M.stands over.old.names))
+        (told_by steps.old) text.old l
+        → (turn (setting_of N.rule bodies) l.state).1 ≡ turned_of turned) }
+    ensures shows { IfOk result (λ turned. (bodies : List Body) (l : Logged)
+        → Shows bodies (StandsAt N.rule (N.stands over.old.nodes) (M.stands over.old.names))
+        (told_by steps.old) text.old l
+        → Shows bodies (StandsAt N.rule (N.stands over.new.nodes) (M.stands over.new.names))
+        (told_by steps.new) text.new
+        (turned_line [] (turn (setting_of N.rule bodies) l.state).0 (turned_of turned) l)) }
 {
-    if is_word(word, b"turn") {
-        return Some(Line::Turn);
-    }
-    None
+    let turned = over.turn(steps);
+    steps.drain_into(text)?;
+    Ok(turned)
 }
 
-// The line that two words are.
-fn two_words(word: &[u8], a: &[u8]) -> Option<Line>
-    ensures found { IfSome result (λ line. LineFits line
-        × (word.now ∷ a.now ∷ [] ≡ line_words line)) }
-    ensures none { IfNone result
-        ((line : Line) → LineFits line → word.now ∷ a.now ∷ [] ≡ line_words line → ⊥) }
+// A line that makes one turn.
+fn do_turn<N: Nodes + Drop, M: Names + Drop>(
+    over: &mut LoopOver<N, M>,
+    steps: &mut ScriptSteps,
+    text: &mut Bytes,
+) -> Result<(), NoMemory>
+    ensures { OnOk result ((bodies : List Body) (l : Logged)
+        → Shows bodies (StandsAt N.rule (N.stands over.old.nodes) (M.stands over.old.names))
+        (told_by steps.old) text.old l
+        → Shows bodies (StandsAt N.rule (N.stands over.new.nodes) (M.stands over.new.names))
+        (told_by steps.new) text.new
+        (turned_line (WasIdle ∷ []) (turn (setting_of N.rule bodies) l.state).0
+        (turn (setting_of N.rule bodies) l.state).1 l)) }
 {
-    let name = read_name(a)?;
-    if is_word(word, b"later") {
-        return Some(Line::Do(Command::Later { name }));
+    match make_turn(over, steps, text)? {
+        Turned::Idle => print_idle(text),
+        Turned::Fired => Ok(()),
+        Turned::NoMemory => Ok(()),
+        Turned::Stopped => Ok(()),
     }
-    if is_word(word, b"detach") {
-        return Some(Line::Do(Command::Detach { source: name }));
-    }
-    None
 }
 
-// The line that five words are.
-fn five_words(word: &[u8], a: &[u8], b: &[u8], value: &[u8], error: &[u8]) -> Option<Line>
-    ensures found { IfSome result (λ line. LineFits line
-        × (word.now ∷ a.now ∷ b.now ∷ value.now ∷ error.now ∷ [] ≡ line_words line)) }
-    ensures none { IfNone result ((line : Line) → LineFits line
-        → word.now ∷ a.now ∷ b.now ∷ value.now ∷ error.now ∷ [] ≡ line_words line → ⊥) }
+// A line that makes so many turns, or until one doesn't fire.
+fn do_run<N: Nodes + Drop, M: Names + Drop>(
+    over: &mut LoopOver<N, M>,
+    steps: &mut ScriptSteps,
+    text: &mut Bytes,
+    turns: u32,
+) -> Result<(), NoMemory>
+    ensures { OnOk result ((bodies : List Body) (l : Logged)
+        → Shows bodies (StandsAt N.rule (N.stands over.old.nodes) (M.stands over.old.names))
+        (told_by steps.old) text.old l
+        → Shows bodies (StandsAt N.rule (N.stands over.new.nodes) (M.stands over.new.names))
+        (told_by steps.new) text.new (run_lines (setting_of N.rule bodies) turns l)) }
 {
-    if !is_word(word, b"then") {
-        return None;
+    let mut left = turns;
+    while left > 0 {
+        match make_turn(over, steps, text)? {
+            Turned::Fired => left -= 1,
+            _ => return Ok(()),
+        }
     }
-    let name = read_name(a)?;
-    let source = read_name(b)?;
-    let value = read_step(value)?;
-    let error = read_step(error)?;
-    Some(Line::Do(Command::Then {
-        name,
-        source,
-        value,
-        error,
-    }))
+    Ok(())
+}
+
+/// One line of a script, and what it did in the log.
+pub(crate) fn do_line<N: Nodes + Drop, M: Names + Drop>(
+    over: &mut LoopOver<N, M>,
+    steps: &mut ScriptSteps,
+    text: &mut Bytes,
+    numbered: &NumberedLine,
+) -> Result<(), NoMemory>
+    ensures { OnOk result ((bodies : List Body) (l : Logged)
+        → Shows bodies (StandsAt N.rule (N.stands over.old.nodes) (M.stands over.old.names))
+        (told_by steps.old) text.old l
+        → Shows bodies (StandsAt N.rule (N.stands over.new.nodes) (M.stands over.new.names))
+        (told_by steps.new) text.new
+        (log_line (setting_of N.rule bodies) numbered.now.number (line_of numbered.now.line) l)) }
+{
+    match &numbered.line {
+        Line::Do(command) => do_command(over, steps, text, numbered.number, command),
+        Line::Turn => do_turn(over, steps, text),
+        Line::Run(turns) => do_run(over, steps, text, *turns),
+    }
 }

@@ -1,111 +1,82 @@
 //! A script, run on a loop of its own.
-ghost use Rattle.std.specs.Prelude.{◌≡◌, [], Some, false, IfOk, OnOk};
-ghost use Rattle.loop_core.specs.Cases.{command_of};
-ghost use Rattle.loop_core.specs.Cases.{script_of, numbered_of};
-ghost use Rattle.kj_model.specs.Log.{log_of, Do, Turn};
+ghost use Rattle.std.specs.Prelude.{◌≡◌, ◌≤◌, List, IfOk, OnOk};
+ghost use Rattle.kj_model.specs.Log.{Body, Logged, limits_or, log_closed, log_of};
 ghost use Rattle.kj_model.specs.Places.{table_fits};
 ghost use Rattle.kj_model.specs.Text.{log_text};
-ghost use Rattle.kj_script.specs.Running.{LineDone, ClosingDone};
-ghost use Rattle.kj_script.specs.Told.{told_by};
+ghost use Rattle.kj_model.specs.World.{new_state};
+ghost use Rattle.loop_core.specs.Loops.{StandsAt};
+ghost use Rattle.name_table.specs.Table.{Stands as NamesStand};
+ghost use Rattle.node_table.specs.NodeTable.{node_of, Stands as TableStands};
+ghost use Rattle.promise_commands.specs.Scripts.{script_of};
+ghost use Rattle.promise_graph.specs.Standing.{StandsFor};
+ghost use Rattle.promise_steps.specs.Kept.{told_by};
+ghost use Rattle.kj_script.specs.Running.{HaveLimits, Shows};
 
-use crate::print::{print_idle, print_refused};
-use crate::steps::ScriptSteps;
-use kj_base::{Bytes, Limits, NAMES, NoMemory, SLOTS};
-use loop_core::{Command, Line, NumberedLine, Script};
-use loop_core::{Loop, Turned};
+use crate::lines::do_line;
+use event_links::EventLinks;
+use kj_base::{Bytes, Limits, MAX_SLOTS, NAMES, NoMemory, SLOTS};
+use loop_core::{Loop, LoopOver};
+use node_table::NodeTable;
+use promise_commands::Script;
+use promise_names::Names;
+use promise_nodes::Nodes;
+use promise_steps::ScriptSteps;
 use std::alloc::Global;
 
-// The slots and names of a loop that runs a script.
-const LIMITS: Limits = Limits {
-    slots: SLOTS,
-    names: NAMES,
-};
+// The limits of a script, or the usual ones.
+fn limits_of(limits: &Option<Limits>) -> Limits
+    requires { HaveLimits limits.now }
+    ensures limits { result ≡ limits_or limits.now }
+    ensures few { result.slots ≤ MAX_SLOTS }
+{
+    match limits {
+        Some(limits) => *limits,
+        None => Limits {
+            slots: SLOTS,
+            names: NAMES,
+        },
+    }
+}
 
-/// Runs a script from its first line to the closing of its loop, and gives its log.
+// A loop in which nothing was built, over a table of nodes and a queue in place.
+fn new_loop(alloc: Global, limits: Limits) -> Result<Loop<NodeTable, EventLinks>, NoMemory>
+    requires { limits.slots ≤ MAX_SLOTS }
+    ensures { IfOk result (λ l. StandsAt table_fits
+        (StandsFor (node_of l.nodes.store) l.nodes.queue.events (TableStands l.nodes.store) l.nodes.marks)
+        (NamesStand l.names) (new_state limits)) }
+{
+    let store = NodeTable::new(alloc, limits.slots)?;
+    let queue = EventLinks::new(alloc, limits.slots + 1)?;
+    LoopOver::new(alloc, limits, store, queue)
+}
+
+// The loop is closed, and what that frees ends the log.
+fn close<N: Nodes + Drop, M: Names + Drop>(
+    over: LoopOver<N, M>,
+    steps: &mut ScriptSteps,
+    text: &mut Bytes,
+) -> Result<(), NoMemory>
+    ensures { OnOk result ((bodies : List Body) (l : Logged)
+        → Shows bodies (StandsAt N.rule (N.stands over.nodes) (M.stands over.names))
+        (told_by steps.old) text.old l
+        → text.new ≡ log_text (log_closed l)) }
+{
+    over.close(steps);
+    steps.drain_into(text)
+}
+
+/// Runs a script from its first line to the closing of its loop, and gives its log. A script that gives no limits has
+/// the usual ones.
 pub fn run_script(alloc: Global, script: &Script) -> Result<Bytes, NoMemory>
+    requires limits { HaveLimits script.now.limits }
     ensures { IfOk result (λ log. log ≡ log_text (log_of table_fits (script_of script.now))) }
 {
-    let mut core = Loop::new(alloc, LIMITS)?;
-    let mut steps = ScriptSteps::new(alloc);
+    let mut over = new_loop(alloc, limits_of(&script.limits))?;
+    let mut steps = ScriptSteps::new(alloc, &script.bodies)?;
     let mut text = Bytes::new(alloc);
     for line in script.lines.as_slice() {
-        do_line(&mut core, &mut steps, &mut text, line)?;
+        do_line(&mut over, &mut steps, &mut text, line)?;
     }
-    close(core, &mut steps, &mut text)?;
+    close(over, &mut steps, &mut text)?;
     Ok(text)
-}
-
-// Does one line, and prints what happened.
-fn do_line(
-    core: &mut Loop,
-    steps: &mut ScriptSteps,
-    text: &mut Bytes,
-    line: &NumberedLine,
-) -> Result<(), NoMemory>
-    requires running { core.old.stopped ≡ false }
-    requires told { told_by steps.old ≡ Some [] }
-    ensures line { OnOk result
-        (LineDone (numbered_of line.now) core.old core.new text.old text.new) }
-    ensures told { OnOk result (told_by steps.new ≡ Some []) }
-    ensures running { OnOk result (core.new.stopped ≡ false) }
-{
-    match &line.line {
-        Line::Do(command) => do_command(core, steps, text, line.number, command.copy()),
-        Line::Turn => do_turn(core, steps, text, line.number),
-    }
-}
-
-// Asks a command of the loop, and prints its refusal.
-fn do_command(
-    core: &mut Loop,
-    steps: &mut ScriptSteps,
-    text: &mut Bytes,
-    number: u32,
-    command: Command,
-) -> Result<(), NoMemory>
-    requires running { core.old.stopped ≡ false }
-    requires told { told_by steps.old ≡ Some [] }
-    ensures line { OnOk result
-        (LineDone (record { number = number; line = Do (command_of command) })
-        core.old core.new text.old text.new) }
-    ensures told { OnOk result (told_by steps.new ≡ Some []) }
-    ensures running { OnOk result (core.new.stopped ≡ false) }
-{
-    match core.apply(command, steps) {
-        Ok(()) => Ok(()),
-        Err(refused) => print_refused(text, number, refused),
-    }
-}
-
-// Makes one turn, and prints what it told; the number of the line is for the contract alone.
-fn do_turn(
-    core: &mut Loop,
-    steps: &mut ScriptSteps,
-    text: &mut Bytes,
-    _number: u32,
-) -> Result<(), NoMemory>
-    requires running { core.old.stopped ≡ false }
-    requires told { told_by steps.old ≡ Some [] }
-    ensures line { OnOk result (LineDone (record { number = _number; line = Turn })
-        core.old core.new text.old text.new) }
-    ensures told { OnOk result (told_by steps.new ≡ Some []) }
-    ensures running { OnOk result (core.new.stopped ≡ false) }
-{
-    let turned = core.turn(steps);
-    steps.drain_into(text)?;
-    match turned {
-        Turned::Fired => Ok(()),
-        Turned::Idle => print_idle(text),
-        Turned::NoMemory => Err(NoMemory),
-        Turned::Stopped => Err(NoMemory),
-    }
-}
-
-// Closes the loop, and prints what was freed.
-fn close(core: Loop, steps: &mut ScriptSteps, text: &mut Bytes) -> Result<(), NoMemory>
-    requires { told_by steps.old ≡ Some [] }
-    ensures { OnOk result (ClosingDone core text.old text.new) }
-{
-    let _freed = core.close(steps);
-    steps.drain_into(text)
 }

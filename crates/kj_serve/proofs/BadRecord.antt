@@ -9,18 +9,7 @@ use Rattle.kj_serve.specs.Replay.{ReplayEnds, ReadBad, bad_record, whole_in}
 use Rattle.conn_record.specs.Refused.{IsRefusal}
 use Rattle.conn_record.specs.declared.read.RecordRefused.{RecordRefused}
 use Rattle.conn_record.specs.declared.read.RecordRefused.TheVariants.{Bad, NoMemory}
-use Rattle.kj_serve.proofs.Refused.{whole_input}
-
-none_of : (status n : ℕ) → status ≡ n → (n ≡ 1 → ⊥) → (n ≡ 4 → ⊥) → (n ≡ 5 → ⊥) → (status ≡ 1) ⊎ (status ≡ 4) ⊎ (status ≡ 5) → ⊥
-none_of status n e one four five (inl a) = one (omega arith)
-none_of status n e one four five (inr (inl a)) = four (omega arith)
-none_of status n e one four five (inr (inr a)) = five (omega arith)
-
-one_or_five : (status : ℕ) (before after : Outside) (whole : ℕ) → (status ≡ 4 → Rose before.writes after.writes × WroteFrontOf before after (bad_record whole)) → (status ≡ 1) ⊎ (status ≡ 4) ⊎ (status ≡ 5)
-    → NoFault before after → (status ≡ 1) ⊎ (status ≡ 5)
-one_or_five status before after whole failed (inl a) fine = inl a
-one_or_five status before after whole failed (inr (inl a)) fine = absurd (fine.writes (failed a).0)
-one_or_five status before after whole failed (inr (inr a)) fine = inr a
+use Rattle.kj_serve.proofs.Refused.{none_of, this_or_five, whole_input}
 
 pub bad_ends : (f : Request → Answer) (status whole : ℕ) (before after : Outside) (octets : List ℕ) → ReadWhole before after octets → IsNoRecording octets → IsWholeUpTo octets whole
     → (status ≡ 1 → Wrote before after (bad_record whole)) → (status ≡ 4 → Rose before.writes after.writes × WroteFrontOf before after (bad_record whole)) → (status ≡ 5 → WroteNothing before after)
@@ -29,15 +18,15 @@ bad_ends f status whole before after octets read none up_to wrote failed nothing
     let bad : ReadBad before after whole = record { input = octets; read = read; none = none; up_to = up_to } in
     let same = λ (input : List ℕ) (known : before.left ≡ Some input). whole_input before.left after.left input octets known read.read read.at_end in
     record {
-      done = λ e. absurd (none_of status 0 e (λ x. omega arith) (λ x. omega arith) (λ x. omega arith) which);
+      done = λ e. absurd (none_of status 1 0 e (λ x. omega arith) (λ x. omega arith) (λ x. omega arith) which);
       bad = λ e. (whole, bad, wrote e);
-      read_failed = λ e. absurd (none_of status 3 e (λ x. omega arith) (λ x. omega arith) (λ x. omega arith) which);
+      read_failed = λ e. absurd (none_of status 1 3 e (λ x. omega arith) (λ x. omega arith) (λ x. omega arith) which);
       write_failed = λ e. ((failed e).0, inr (whole, bad, (failed e).1));
       no_memory = nothing;
-      too_long = λ e. absurd (none_of status 6 e (λ x. omega arith) (λ x. omega arith) (λ x. omega arith) which);
+      too_long = λ e. absurd (none_of status 1 6 e (λ x. omega arith) (λ x. omega arith) (λ x. omega arith) which);
       statuses = elim which [ inl a ↦ inr (inl a) | inr a ↦ elim a [ inl b ↦ inr (inr (inr (inl b))) | inr b ↦ inr (inr (inr (inr (inl b)))) ] ];
       replays = λ input known fine conns is short. absurd (none conns (subst (λ (x : List ℕ). IsRecording x conns) (same input known) is));
-      refuses = λ input known fine none' short. one_or_five status before after whole failed which fine;
+      refuses = λ input known fine none' short. this_or_five status 1 before after (bad_record whole) failed which fine;
       refuses_long = λ input known fine long. absurd (omega (arith, ap length (same input known), read.short, long));
     }
 

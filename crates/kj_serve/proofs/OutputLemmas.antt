@@ -1,16 +1,16 @@
 -- One output for each input.
-use Rattle.std.proofs.Common.{◌≡◌, ◌⊎◌, ℕ, ◌+◌, ◌<◌, ◌≤◌, ◌^◌, List, [], ◌∷◌, ◌++◌, length, All, refl, sym, ap, ◌∙◌, subst, arith, inl, inr, length-append, append-nil, Option, None}
+use Rattle.std.proofs.Common.{◌≡◌, ◌⊎◌, ℕ, ◌<◌, ◌≤◌, ◌^◌, List, [], ◌∷◌, ◌++◌, length, All, refl, sym, ap, ◌∙◌, subst, arith, inl, inr, length-append, append-nil, Option, None}
 use Rattle.std.specs.Prelude.{codes, decimal, Some}
 use Rattle.std.proofs.lemmas.List.Elements.{All-cons, All-nil}
 use Rattle.std.proofs.lemmas.Bool.{cases_lt}
-use Rattle.std.specs.Io.KnownBytes.{Consumes, Appends, IsAtEnd}
+use Rattle.std.specs.Io.KnownBytes.{Consumes, Appends}
 use Rattle.kj_base.specs.declared.limits.TheConstants.{INPUT_LIMIT}
-use Rattle.loop_core.specs.declared.asking.Script.{Script}
-use Rattle.loop_core.specs.Cases.{script_of}
+use Rattle.promise_commands.specs.declared.script.Script.{Script}
+use Rattle.promise_commands.specs.Scripts.{script_of}
 use Rattle.kj_model.specs.Log.{log_of}
 use Rattle.kj_model.specs.Places.{table_fits}
 use Rattle.kj_model.specs.Text.{log_text}
-use Rattle.kj_script.specs.ScriptText.{IsScriptText}
+use Rattle.promise_script.specs.Scripts.{IsScriptText, IsBadLine, IsNotBuiltLine}
 use Rattle.conn_record.specs.Records.{conn_text, conns_text, record_text, reply_text, IsRecording, IsNoRecording, BeginsWith, IsWholeUpTo}
 use Rattle.http_core.specs.declared.message.Request.{Request}
 use Rattle.http_core.specs.declared.message.Answer.{Answer}
@@ -19,17 +19,27 @@ use Rattle.kj_serve.specs.declared.forms.Form.{Form}
 use Rattle.kj_serve.specs.declared.forms.Form.TheVariants.{Run, Replay, Make}
 use Rattle.kj_serve.specs.declared.replay.ServiceName.{ServiceName}
 use Rattle.kj_serve.specs.Outside.{Outside, NoFault, ReadWhole, Wrote}
-use Rattle.kj_serve.specs.Run.{RunsTo, RunEnds, IsRefused, IsNoScript, refusal}
+use Rattle.kj_serve.specs.Run.{RunsTo, RunEnds, ReadFaulty, bad_line, not_built_line}
 use Rattle.kj_serve.specs.Ends.{Ends}
 use Rattle.kj_serve.specs.Replay.{ReplayEnds, AreReplies, IsReplyText, ReplaysTo, answers_of, bad_record}
 use Rattle.kj_serve.specs.Make.{made_text}
 use Rattle.kj_serve.proofs.Refused.{whole_input}
-use Rattle.kj_serve.specs.Outputs.{RunGives, BadGives, ReplayGives, Gives}
+use Rattle.kj_serve.specs.Outputs.{FaultGives, RunGives, BadGives, ReplayGives, Gives}
 
 -- ---- one output
 
-abbrev pub OneScript : Type 0
-OneScript = (text : List ℕ) (a b : Script) → IsScriptText text a → IsScriptText text b → a ≡ b
+-- a text is one script at most, and has one line at fault at most
+pub record OneScript : Type 0 where
+  pub script : (text : List ℕ) (a b : Script) → IsScriptText text a → IsScriptText text b → a ≡ b
+  pub bad : (text : List ℕ) (a b : ℕ) → IsBadLine text a → IsBadLine text b → a ≡ b
+  pub not_built : (text : List ℕ) (a b : ℕ) → IsNotBuiltLine text a → IsNotBuiltLine text b → a ≡ b
+
+-- a text is a script, or has a line at fault; and no two of these hold
+pub record SomeScript : Type 0 where
+  pub some : (text : List ℕ) → ((script : Script) × IsScriptText text script) ⊎ (((line : ℕ) × IsBadLine text line) ⊎ ((line : ℕ) × IsNotBuiltLine text line))
+  pub not_bad : (text : List ℕ) (script : Script) (line : ℕ) → IsScriptText text script → IsBadLine text line → ⊥
+  pub built : (text : List ℕ) (script : Script) (line : ℕ) → IsScriptText text script → IsNotBuiltLine text line → ⊥
+  pub either : (text : List ℕ) (a b : ℕ) → IsBadLine text a → IsNotBuiltLine text b → ⊥
 
 abbrev pub IsShort : List ℕ → Type 0
 IsShort conn = length conn < 2 ^ 64
@@ -41,15 +51,28 @@ abbrev pub OneReply : Type 0
 OneReply = (f : Request → Answer) (bytes output other : List ℕ) → IsReplies f bytes output → IsReplies f bytes other → output ≡ other
 
 same_log : OneScript → (input a b : List ℕ) → RunsTo input a → RunsTo input b → a ≡ b
-same_log one input a b f g = f.log ∙ ap (λ (s : Script). log_text (log_of table_fits (script_of s))) (one input f.script g.script f.text g.text) ∙ sym g.log
+same_log one input a b f g = f.log ∙ ap (λ (s : Script). log_text (log_of table_fits (script_of s))) (one.script input f.script g.script f.text g.text) ∙ sym g.log
 
-one_run : OneScript → (input a b : List ℕ) (s t : ℕ) → RunGives input s a → RunGives input t b → (s ≡ t) × (a ≡ b)
-one_run one input a b s t (inl f) (inl g) = (f.2 ∙ sym g.2, same_log one input a b f.1 g.1)
-one_run one input a b s t (inl f) (inr (inl long, same, g)) = absurd (omega (arith, f.0, long))
-one_run one input a b s t (inl f) (inr (inr none, same, g)) = absurd (none f.1.script f.1.text)
-one_run one input a b s t (inr (inl long, same, f)) (inl g) = absurd (omega (arith, g.0, long))
-one_run one input a b s t (inr (inr none, same, f)) (inl g) = absurd (none g.1.script g.1.text)
-one_run one input a b s t (inr f) (inr g) = (f.2 ∙ sym g.2, f.1 ∙ sym g.1)
+same_fault : (IsFault : List ℕ → ℕ → Type 0) (text : ℕ → List ℕ) (input a b : List ℕ) → ((j k : ℕ) → IsFault input j → IsFault input k → j ≡ k) → FaultGives IsFault text input a → FaultGives IsFault text input b → a ≡ b
+same_fault IsFault text input a b one f g = f.2 ∙ ap text (one f.0 g.0 f.1 g.1) ∙ sym g.2
+
+one_run : OneScript → SomeScript → (input a b : List ℕ) (s t : ℕ) → RunGives input s a → RunGives input t b → (s ≡ t) × (a ≡ b)
+one_run one some input a b s t (inl f) (inl g) = (f.2 ∙ sym g.2, same_log one input a b f.1 g.1)
+one_run one some input a b s t (inl f) (inr (inl g)) = absurd (some.not_bad input f.1.script g.1.0 f.1.text g.1.1)
+one_run one some input a b s t (inl f) (inr (inr (inl g))) = absurd (some.built input f.1.script g.1.0 f.1.text g.1.1)
+one_run one some input a b s t (inl f) (inr (inr (inr g))) = absurd (omega (arith, f.0, g.0))
+one_run one some input a b s t (inr (inl f)) (inl g) = absurd (some.not_bad input g.1.script f.1.0 g.1.text f.1.1)
+one_run one some input a b s t (inr (inl f)) (inr (inl g)) = (f.2 ∙ sym g.2, same_fault IsBadLine bad_line input a b (one.bad input) f.1 g.1)
+one_run one some input a b s t (inr (inl f)) (inr (inr (inl g))) = absurd (some.either input f.1.0 g.1.0 f.1.1 g.1.1)
+one_run one some input a b s t (inr (inl f)) (inr (inr (inr g))) = absurd (omega (arith, f.0, g.0))
+one_run one some input a b s t (inr (inr (inl f))) (inl g) = absurd (some.built input g.1.script f.1.0 g.1.text f.1.1)
+one_run one some input a b s t (inr (inr (inl f))) (inr (inl g)) = absurd (some.either input g.1.0 f.1.0 g.1.1 f.1.1)
+one_run one some input a b s t (inr (inr (inl f))) (inr (inr (inl g))) = (f.2 ∙ sym g.2, same_fault IsNotBuiltLine not_built_line input a b (one.not_built input) f.1 g.1)
+one_run one some input a b s t (inr (inr (inl f))) (inr (inr (inr g))) = absurd (omega (arith, f.0, g.0))
+one_run one some input a b s t (inr (inr (inr f))) (inl g) = absurd (omega (arith, f.0, g.0))
+one_run one some input a b s t (inr (inr (inr f))) (inr (inl g)) = absurd (omega (arith, f.0, g.0))
+one_run one some input a b s t (inr (inr (inr f))) (inr (inr (inl g))) = absurd (omega (arith, f.0, g.0))
+one_run one some input a b s t (inr (inr (inr f))) (inr (inr (inr g))) = (f.2 ∙ sym g.2, f.1 ∙ sym g.1)
 
 -- a connection is no longer than its text
 conn_inside : (conn : List ℕ) → length conn ≤ length (conn_text conn)
@@ -106,15 +129,12 @@ one_replay recording reply f input a b s t (inr (inr p)) (inl q) = absurd (omega
 one_replay recording reply f input a b s t (inr (inr p)) (inr (inl q)) = absurd (omega (arith, p.0, q.0))
 one_replay recording reply f input a b s t (inr (inr p)) (inr (inr q)) = (p.2 ∙ sym q.2, p.1 ∙ sym q.1)
 
-pub one_given : OneScript → OneRecording → OneReply → (form : Form) (input a b : List ℕ) (s t : ℕ) → Gives form input s a → Gives form input t b → (s ≡ t) × (a ≡ b)
-one_given script recording reply Run input a b s t p q = one_run script input a b s t p q
-one_given script recording reply (Replay service) input a b s t p q = one_replay recording reply (answers_of service) input a b s t p q
-one_given script recording reply (Make number conns requests) input a b s t p q = (p.1 ∙ sym q.1, p.0 ∙ sym q.0)
+pub one_given : OneScript → SomeScript → OneRecording → OneReply → (form : Form) (input a b : List ℕ) (s t : ℕ) → Gives form input s a → Gives form input t b → (s ≡ t) × (a ≡ b)
+one_given script some recording reply Run input a b s t p q = one_run script some input a b s t p q
+one_given script some recording reply (Replay service) input a b s t p q = one_replay recording reply (answers_of service) input a b s t p q
+one_given script some recording reply (Make number conns requests) input a b s t p q = (p.1 ∙ sym q.1, p.0 ∙ sym q.0)
 
 -- ---- some output
-
-abbrev pub SomeScript : Type 0
-SomeScript = (octets : List ℕ) → ((script : Script) × IsScriptText octets script) ⊎ IsNoScript octets
 
 abbrev pub SomeRecording : Type 0
 SomeRecording = (bytes : List ℕ) → length bytes < 2 ^ 64 → ((conns : List (List ℕ)) × IsRecording bytes conns) ⊎ (IsNoRecording bytes × ((whole : ℕ) × IsWholeUpTo bytes whole))
@@ -127,12 +147,13 @@ abbrev Given : Form → List ℕ → Type 0
 Given form input = (status : ℕ) × (output : List ℕ) × Gives form input status output
 
 some_run : SomeScript → (input : List ℕ) → Given Run input
-some_run script input = by (cases_lt INPUT_LIMIT (length input)) (script input)
+some_run script input = by (cases_lt INPUT_LIMIT (length input)) (script.some input)
   where
-    by : (INPUT_LIMIT < length input) ⊎ (length input ≤ INPUT_LIMIT) → ((script : Script) × IsScriptText input script) ⊎ IsNoScript input → Given Run input
-    by (inl long) found = (9, refusal, inr (inl long, refl, refl))
+    by : (INPUT_LIMIT < length input) ⊎ (length input ≤ INPUT_LIMIT) → ((script : Script) × IsScriptText input script) ⊎ (((line : ℕ) × IsBadLine input line) ⊎ ((line : ℕ) × IsNotBuiltLine input line)) → Given Run input
+    by (inl long) found = (6, [], inr (inr (inr (long, refl, refl))))
     by (inr short) (inl found) = (0, log_text (log_of table_fits (script_of found.0)), inl (short, record { script = found.0; text = found.1; log = refl }, refl))
-    by (inr short) (inr none) = (9, refusal, inr (inr none, refl, refl))
+    by (inr short) (inr (inl found)) = (1, bad_line found.0, inr (inl (short, (found.0, found.1, refl), refl)))
+    by (inr short) (inr (inr found)) = (9, not_built_line found.0, inr (inr (inl (short, (found.0, found.1, refl), refl))))
 
 some_replies : SomeReply → (f : Request → Answer) (conns : List (List ℕ)) → (replies : List (List ℕ)) × AreReplies f conns replies
 some_replies some f [] = ([], tt)
@@ -189,23 +210,40 @@ run_written status before after input e known fine room = by e.statuses
     all_of : (octets : List ℕ) → ReadWhole before after octets → octets ≡ input
     all_of octets read = sym (whole_input before.left after.left input octets known read.read read.at_end)
 
+    short_of : (octets : List ℕ) → ReadWhole before after octets → length input ≤ INPUT_LIMIT
+    short_of octets read = subst (λ (x : List ℕ). length x ≤ INPUT_LIMIT) (all_of octets read) read.short
+
     done : status ≡ 0 → Written Run status before after input
     done zero =
-        let ran = e.done zero in
-        let same : ran.input ≡ input = all_of ran.input ran.read in
-        let short : length input ≤ INPUT_LIMIT = subst (λ (x : List ℕ). length x ≤ INPUT_LIMIT) same ran.read.short in
-        (ran.output, inl (short, subst (λ (x : List ℕ). RunsTo x ran.output) same ran.runs, zero), ran.wrote)
+        let found = e.done zero in
+        let r = found.1 in
+        (found.0, inl (short_of r.input r.read, subst (λ (x : List ℕ). RunsTo x found.0) (all_of r.input r.read) r.runs, zero), found.2)
 
-    why : IsRefused before after → (INPUT_LIMIT < length input) ⊎ IsNoScript input
-    why (inl long) = inl (omega (arith, long.2, read_within before.left after.left input long.0 known long.1))
-    why (inr none) = inr (subst IsNoScript (all_of none.0 none.1) none.2)
+    bad : status ≡ 1 → Written Run status before after input
+    bad one =
+        let found = e.bad one in
+        let r = found.1 in
+        (bad_line found.0, inr (inl (short_of r.input r.read, (found.0, subst (λ (x : List ℕ). IsBadLine x found.0) (all_of r.input r.read) r.fault, refl), one)), found.2)
 
-    by : (status ≡ 0) ⊎ (status ≡ 3) ⊎ (status ≡ 4) ⊎ (status ≡ 5) ⊎ (status ≡ 9) → Written Run status before after input
+    not_built : status ≡ 9 → Written Run status before after input
+    not_built nine =
+        let found = e.not_built nine in
+        let r = found.1 in
+        (not_built_line found.0, inr (inr (inl (short_of r.input r.read, (found.0, subst (λ (x : List ℕ). IsNotBuiltLine x found.0) (all_of r.input r.read) r.fault, refl), nine))), found.2)
+
+    long : status ≡ 6 → Written Run status before after input
+    long six =
+        let past = (e.too_long six).0 in
+        ([], inr (inr (inr (omega (arith, past.2, read_within before.left after.left input past.0 known past.1), refl, six))), nothing_more before.taken after.taken (e.too_long six).1)
+
+    by : (status ≡ 0) ⊎ (status ≡ 1) ⊎ (status ≡ 3) ⊎ (status ≡ 4) ⊎ (status ≡ 5) ⊎ (status ≡ 6) ⊎ (status ≡ 9) → Written Run status before after input
     by (inl a) = done a
-    by (inr (inl a)) = absurd (fine.reads (e.read_failed a).0)
-    by (inr (inr (inl a))) = absurd (fine.writes (e.write_failed a).0)
-    by (inr (inr (inr (inl a)))) = absurd (room a)
-    by (inr (inr (inr (inr a)))) = (refusal, inr (why (e.not_built a).0, refl, a), (e.not_built a).1)
+    by (inr (inl a)) = bad a
+    by (inr (inr (inl a))) = absurd (fine.reads (e.read_failed a).0)
+    by (inr (inr (inr (inl a)))) = absurd (fine.writes (e.write_failed a).0)
+    by (inr (inr (inr (inr (inl a))))) = absurd (room a)
+    by (inr (inr (inr (inr (inr (inl a)))))) = long a
+    by (inr (inr (inr (inr (inr (inr a)))))) = not_built a
 
 replay_written : (service : ServiceName) (status : ℕ) (before after : Outside) (input : List ℕ) → ReplayEnds (answers_of service) status before after → before.left ≡ Some input → NoFault before after → (status ≡ 5 → ⊥) → Written (Replay service) status before after input
 replay_written service status before after input e known fine room = by e.statuses

@@ -6,15 +6,25 @@ use Rattle.http_core.specs.declared.message.Request.{Request}
 use Rattle.http_core.specs.declared.message.Answer.{Answer}
 use Rattle.kj_serve.specs.declared.forms.Form.{Form}
 use Rattle.kj_serve.specs.declared.forms.Form.TheVariants.{Run, Replay, Make}
-use Rattle.kj_serve.specs.Run.{RunsTo, IsNoScript, refusal}
+use Rattle.promise_script.specs.Scripts.{IsBadLine, IsNotBuiltLine}
+use Rattle.kj_serve.specs.Run.{RunsTo, bad_line, not_built_line}
 use Rattle.kj_serve.specs.Replay.{ReplaysTo, answers_of, bad_record}
 use Rattle.kj_serve.specs.Make.{made_text}
 
--- the log of a script with status 0, the line of a refusal with 9
+-- the line of a bad line, or of one that isn't built yet
+abbrev pub FaultGives : (List ℕ → ℕ → Type 0) → (ℕ → List ℕ) → List ℕ → List ℕ → Type 0
+FaultGives IsFault text input output =
+    (line : ℕ) × IsFault input line × (output ≡ text line)
+
+-- the log of a script with status 0, the line of a bad line with 1, of one that isn't built yet
+-- with 9, nothing with 6
 abbrev pub RunGives : List ℕ → ℕ → List ℕ → Type 0
 RunGives input status output =
     ((length input ≤ INPUT_LIMIT) × RunsTo input output × (status ≡ 0))
-    ⊎ (((INPUT_LIMIT < length input) ⊎ IsNoScript input) × (output ≡ refusal) × (status ≡ 9))
+    ⊎ ((length input ≤ INPUT_LIMIT) × FaultGives IsBadLine bad_line input output × (status ≡ 1))
+    ⊎ ((length input ≤ INPUT_LIMIT) × FaultGives IsNotBuiltLine not_built_line input output
+    × (status ≡ 9))
+    ⊎ ((INPUT_LIMIT < length input) × (output ≡ []) × (status ≡ 6))
 
 -- the line of an input that is no recording
 abbrev pub BadGives : List ℕ → List ℕ → Type 0

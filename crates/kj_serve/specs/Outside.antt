@@ -1,5 +1,5 @@
 -- What a command sees of the outside.
-use Rattle.std.specs.Prelude.{◌≡◌, ℕ, ◌≤◌, List, length, Option}
+use Rattle.std.specs.Prelude.{◌≡◌, ℕ, ◌+◌, ◌≤◌, ◌++◌, List, [], ◌∷◌, length, Option, decimal}
 use Rattle.std.specs.Io.KnownBytes.{Appends, Consumes, IsAtEnd}
 use Rattle.kj_io.specs.Causes.{Rose}
 use Rattle.kj_io.specs.Whole.{WroteFront}
@@ -41,3 +41,12 @@ pub record ReadWhole (before after : Outside) (input : List ℕ) : Type 0 where
   pub read : Consumes before.left after.left input
   pub at_end : IsAtEnd after.left
   pub short : length input ≤ INPUT_LIMIT
+
+-- one octet more than the limit was read
+abbrev pub ReadPast : Outside → Outside → Type 0
+ReadPast before after =
+    (input : List ℕ) × Consumes before.left after.left input × (length input ≡ INPUT_LIMIT + 1)
+
+-- a line of a number behind these words
+abbrev pub numbered : List ℕ → ℕ → List ℕ
+numbered words number = words ++ decimal number ++ 10 ∷ []

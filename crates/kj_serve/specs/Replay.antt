@@ -1,6 +1,5 @@
 -- What the command `replay` does.
-use Rattle.std.specs.Prelude.{◌≡◌, ◌⊎◌, ℕ, ◌+◌, ◌<◌, ◌≤◌, ◌++◌, List, [], ◌∷◌, length, Option, None, Some, codes, decimal}
-use Rattle.std.specs.Io.KnownBytes.{Consumes}
+use Rattle.std.specs.Prelude.{◌≡◌, ◌⊎◌, ℕ, ◌<◌, ◌≤◌, List, [], ◌∷◌, length, Option, None, Some, codes}
 use Rattle.kj_io.specs.Causes.{Rose}
 use Rattle.conn_record.specs.Records.{IsRecording, IsNoRecording, IsWholeUpTo, reply_text}
 use Rattle.conn_record.specs.declared.read.RecordRefused.{RecordRefused}
@@ -12,7 +11,7 @@ use Rattle.http_core.specs.Services.{echo_of, target_of}
 use Rattle.kj_serve.specs.declared.replay.ServiceName.{ServiceName}
 use Rattle.kj_serve.specs.declared.replay.ServiceName.TheVariants.{Echo, Target}
 use Rattle.kj_base.specs.declared.limits.TheConstants.{INPUT_LIMIT}
-use Rattle.kj_serve.specs.Outside.{Outside, NoFault, Wrote, WroteFrontOf, WroteNothing, ReadWhole}
+use Rattle.kj_serve.specs.Outside.{Outside, NoFault, ReadPast, ReadWhole, Wrote, WroteFrontOf, WroteNothing, numbered}
 
 -- what a service answers
 abbrev pub answers_of : ServiceName → Request → Answer
@@ -40,7 +39,7 @@ pub record ReplaysTo (f : Request → Answer) (input output : List ℕ) : Type 0
 
 -- the line of an input that is no recording
 abbrev pub bad_record : ℕ → List ℕ
-bad_record whole = codes "bad record " ++ decimal whole ++ 10 ∷ []
+bad_record whole = numbered (codes "bad record ") whole
 
 -- an input that is no recording was read to its end, with so many whole connections
 pub record ReadBad (before after : Outside) (whole : ℕ) : Type 0 where
@@ -65,11 +64,6 @@ abbrev pub ReplayPart : (Request → Answer) → Outside → Outside → Type 0
 ReplayPart f before after =
     ((output : List ℕ) × Replayed f before after output × WroteFrontOf before after output)
     ⊎ ((whole : ℕ) × ReadBad before after whole × WroteFrontOf before after (bad_record whole))
-
--- one octet more than the limit was read
-abbrev pub ReadPast : Outside → Outside → Type 0
-ReadPast before after =
-    (input : List ℕ) × Consumes before.left after.left input × (length input ≡ INPUT_LIMIT + 1)
 
 -- the command ended with this status
 pub record ReplayEnds (f : Request → Answer) (status : ℕ) (before after : Outside) : Type 0 where

@@ -10,7 +10,8 @@ pub fn one_output()
     ensures { (form : Form) (input a b : List ℕ) (s t : ℕ)
         → Gives form input s a → Gives form input t b → (s ≡ t) × (a ≡ b) }
 {
-    kj_script::one_script();
+    promise_script::one_script();
+    promise_script::some_script();
     conn_record::one_recording();
     http_core::one_output();
 }
@@ -20,7 +21,7 @@ pub fn some_output()
     ensures { (form : Form) (input : List ℕ)
         → (status : ℕ) × (output : List ℕ) × Gives form input status output }
 {
-    kj_script::some_script();
+    promise_script::some_script();
     conn_record::some_recording();
     http_core::some_output();
 }

@@ -1,17 +1,13 @@
 //! The command `replay`: recorded connections in, the replies to them out.
-ghost use Rattle.std.specs.Prelude.{◌≡◌, ◌⊎◌, IfOk, IfSome, false};
-ghost use Rattle.std.specs.Io.KnownBytes.{Appends};
-ghost use Rattle.kj_io.specs.Causes.{Rose};
-ghost use Rattle.kj_io.specs.Whole.{WroteFront};
+ghost use Rattle.std.specs.Prelude.{◌≡◌, IfOk, IfSome, false};
 ghost use Rattle.http_core.specs.Replies.{IsReplies};
 ghost use Rattle.kj_serve.specs.Outside.{outside_of};
-ghost use Rattle.kj_serve.specs.Replay.{ReplayEnds, IsReplyText, whole_in, answers_of, bad_record};
+ghost use Rattle.kj_serve.specs.Replay.{ReplayEnds, IsReplyText, whole_in, answers_of};
 
-use crate::output::finish;
+use crate::output::{finish, write_numbered};
 use crate::status::{BAD_INPUT, DONE, NO_MEMORY, READ_FAILED, TOO_LONG};
-use conn_record::{RecordRefused, Replies, print_replies, read_records};
+use conn_record::{RecordRefused, Records, Replies, print_replies, read_records};
 use http_core::{Connection, Echo, Service, Target};
-use itoa::Buffer;
 use kj_base::{Bytes, INPUT_LIMIT, NoMemory};
 use kj_io::{Read, Sink, Source, Spawner, read_whole};
 use std::alloc::Global;
@@ -56,12 +52,12 @@ pub fn replay_command<R: Wait + Threads + Sync, I: Source, O: Sink, W: Spawner>(
         Ok(records) => records,
         Err(refused) => {
             return match whole_in(refused) {
-                Some(whole) => refuse(alloc, whole, output),
+                Some(whole) => write_numbered(alloc, output, b"bad record ", whole, BAD_INPUT),
                 None => NO_MEMORY,
             };
         }
     };
-    match replies_of(alloc, service, records.as_slice()) {
+    match replies_of(alloc, service, records) {
         Ok(text) => finish(output, text.as_slice(), DONE),
         Err(NoMemory) => NO_MEMORY,
     }
@@ -78,8 +74,8 @@ fn whole_in(refused: RecordRefused) -> Option<u32>
 }
 
 // The text of the replies to these connections.
-fn replies_of(alloc: Global, service: ServiceName, records: &[Bytes]) -> Result<Bytes, NoMemory>
-    ensures { IfOk result (IsReplyText (answers_of service) records.now) }
+fn replies_of(alloc: Global, service: ServiceName, records: Records) -> Result<Bytes, NoMemory>
+    ensures { IfOk result (IsReplyText (answers_of service) records) }
 {
     match service {
         ServiceName::Echo => serve_all(alloc, Echo, records),
@@ -87,16 +83,17 @@ fn replies_of(alloc: Global, service: ServiceName, records: &[Bytes]) -> Result<
     }
 }
 
-// The same, by one service for all of them.
+// The same, by one service for all of them. What a connection sent is dropped once it is served, so
+// that its memory serves the next reply.
 fn serve_all<S: Service + Drop>(
     alloc: Global,
     mut service: S,
-    records: &[Bytes],
+    records: Records,
 ) -> Result<Bytes, NoMemory>
-    ensures { IfSome S.told (λ f. IfOk result (IsReplyText f records.now)) }
+    ensures { IfSome S.told (λ f. IfOk result (IsReplyText f records)) }
 {
     let mut replies = Replies::new(alloc);
-    for record in records {
+    for record in records.into_vec() {
         let (written, back) = serve(alloc, service, record.as_slice())?;
         service = back;
         replies.push(written)?;
@@ -117,31 +114,4 @@ fn serve<S: Service + Drop>(
     connection.end()?;
     let written = connection.take_output();
     Ok((written, connection.service()))
-}
-
-// Writes how many connections of a bad recording are whole.
-fn refuse<O: Sink>(alloc: Global, whole: u32, output: &mut O) -> u8
-    ensures bad { result ≡ 1
-        → Appends (O.taken output.old) (O.taken output.new) (bad_record whole) }
-    ensures cause { result ≡ 4 → Rose (O.faults output.old) (O.faults output.new) }
-    ensures front { result ≡ 4
-        → WroteFront (O.taken output.old) (O.taken output.new) (bad_record whole) }
-    ensures no_memory { result ≡ 5 → O.taken output.new ≡ O.taken output.old }
-    ensures statuses { (result ≡ 1) ⊎ (result ≡ 4) ⊎ (result ≡ 5) }
-{
-    let Ok(line) = bad_line(alloc, whole) else {
-        return NO_MEMORY;
-    };
-    finish(output, line.as_slice(), BAD_INPUT)
-}
-
-// The line that is written then.
-fn bad_line(alloc: Global, whole: u32) -> Result<Bytes, NoMemory>
-    ensures { IfOk result (λ line. line ≡ bad_record whole) }
-{
-    let mut buffer = Buffer::new();
-    let mut line = Bytes::from_slice(alloc, b"bad record ")?;
-    line.extend(buffer.format(whole).as_bytes())?;
-    line.push(b'\n')?;
-    Ok(line)
 }

@@ -6,7 +6,7 @@ use std::io::ErrorKind;
 
 /// The input was read to its end, and all was written.
 pub const DONE: u8 = 0;
-/// The input is no recording.
+/// The input is no recording, or no script.
 pub const BAD_INPUT: u8 = 1;
 /// The words are no form of the program.
 pub const WRONG_WORDS: u8 = 2;
@@ -16,9 +16,9 @@ pub const READ_FAILED: u8 = 3;
 pub const WRITE_FAILED: u8 = 4;
 /// Memory ran out.
 pub const NO_MEMORY: u8 = 5;
-/// The input of `replay` is longer than its limit.
+/// The input is longer than its limit.
 pub const TOO_LONG: u8 = 6;
-/// The input of `run` is longer than its limit, or no list of the lines that are built so far.
+/// The script has a line that isn't built yet.
 pub const NOT_BUILT: u8 = 9;
 
 /// The status of words that could not be read: they are no form, unless memory ran out.

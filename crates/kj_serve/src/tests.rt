@@ -8,6 +8,7 @@ use std::thread::Threads;
 
 mod faults;
 mod recordings;
+mod rows;
 mod scripts;
 mod words;
 

@@ -1,16 +1,2 @@
-pub mod Nodes
-pub mod Names
-pub mod Order
-pub mod Walks
-pub mod Engine
-pub mod Kept
-pub mod Falling
-pub mod Seen
-pub mod Applied
-pub mod Full
-pub mod Gives
-pub mod Turns
 pub mod Loops
-pub mod Quiet
-pub mod Closing
-pub mod Cases
+pub mod Calls

@@ -1,21 +1,10 @@
-//! The event loop over plain vectors: commands, turns and the closing, each as the definitions of kj_model say.
+//! The loop: its calls over any keeper of nodes and any keeper of names.
 #![tactic(auto)]
 
-mod asking;
+mod applying;
 mod closing;
-mod commands;
-mod engine;
-mod evaluate;
-mod event_loop;
-mod fire;
-mod names;
-mod nodes;
-mod order;
-#[cfg(test)]
-mod tests;
-mod turned;
-mod walk;
+mod over;
+mod running;
 
-pub use asking::{Action, Command, Commands, Line, Lines, NumberedLine, Refused, Script, Steps};
-pub use event_loop::Loop;
-pub use turned::Turned;
+pub use over::{Loop, LoopOver};
+pub use promise_turns::Turned;

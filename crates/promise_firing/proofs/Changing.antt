@@ -71,3 +71,27 @@ does_ends A P B f g a b less none d = record {
   told = d.told;
   moves = λ s stands. let r = d.moves s stands in record { state = r.state; stands = less r.state.world r.stands; past_is = r.past_is; ends = sym (none r.state r.stands) ∙ r.ends };
 }
+
+-- a change that isn't told before one that is
+pub does_behind : (A B C : World → Type 0) (f : State → State) (change : World → World) (a b : Option (List Item)) → ((w : World) → A w → B (change w)) → Does B C f (λ s. s) a b → Does A C (λ s. f (silent change s)) (λ s. s) a b
+does_behind A B C f change a b changed d = record {
+  items = d.items;
+  told = d.told;
+  moves = λ s stands. let r = d.moves (silent change s) (changed s.world stands) in record { state = r.state; stands = r.stands; past_is = r.past_is; ends = r.ends };
+}
+
+-- a change after which this is left to do, by what is known then
+pub does_onward : (P A C Q : World → Type 0) (f g h : State → State) (a b : Option (List Item)) → ((w : World) → P w → A w) → Does A C f (λ s. s) a b → ((s : State) → P s.world → C (f s).world → (h (f s) ≡ g s) × Q (f s).world) → Does P Q g h a b
+does_onward P A C Q f g h a b less d then = record {
+  items = d.items;
+  told = d.told;
+  moves = λ s p.
+      let r = d.moves s (less s.world p) in
+      let q = then s p (subst (λ (t : State). C t.world) r.ends r.stands) in
+      record {
+        state = f s;
+        stands = q.1;
+        past_is = ap (λ (t : State). t.past) (sym r.ends) ∙ r.past_is;
+        ends = q.0;
+      };
+}

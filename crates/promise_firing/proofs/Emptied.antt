@@ -7,7 +7,7 @@ use Rattle.std.proofs.lemmas.List.{reverse-append}
 use Rattle.std.proofs.lemmas.List.Folds.{list_any-append}
 use Rattle.kj_model.specs.Nodes.{Entry, Form, form_at, is_in}
 use Rattle.kj_model.specs.World.{World, State, depth_of}
-use Rattle.kj_model.specs.Free.{Guard, Holding, free_to, free_form, each_freed}
+use Rattle.kj_model.specs.Free.{Guard, Holding, free, free_to, free_form, each_freed}
 use Rattle.kj_model.specs.Trees.{none_if}
 use Rattle.kj_model.specs.Falling.{some_staying, falling}
 use Rattle.kj_model.specs.Calls.{detached_closed}
@@ -24,10 +24,10 @@ none_stays true out m nodes o e = refl
 none_stays false out m nodes o e = rw e refl
 
 -- no node comes when a tree goes
-stays_dead : (n m : ℕ) (s : State) → form_at m s.world.nodes ≡ None → form_at m (free_one n s).world.nodes ≡ None
-stays_dead n m s e =
-    let f = node_frees (Holding []) (depth_of s.world) n s in
-    let ns = falling (Holding []) s.world (depth_of s.world) [] [] n in
+pub stays_dead : (g : Guard) (n m : ℕ) (s : State) → form_at m s.world.nodes ≡ None → form_at m (free g n s).world.nodes ≡ None
+stays_dead g n m s e =
+    let f = node_frees g (depth_of s.world) n s in
+    let ns = falling g s.world (depth_of s.world) [] [] n in
     f.forms m ∙ none_stays (is_in m ns) (λ b. is_in b [] || is_in b ns) m s.world.nodes (form_at m s.world.nodes) e
 
 -- and no task leaves the loop's own set
@@ -43,12 +43,12 @@ unfolding free_to
 goes_to g d k n s e = subst (λ (j : ℕ). form_at n (free_to g j n s).world.nodes ≡ None) (sym e) (form_dead g (free_to g k) n (form_at n s.world.nodes) s refl)
 
 -- its root goes
-goes : (n : ℕ) (s : State) → form_at n (free_one n s).world.nodes ≡ None
-goes n s = goes_to (Holding []) (depth_of s.world) s.world.limits.slots n s (omega arith)
+goes : (g : Guard) (n : ℕ) (s : State) → form_at n (free g n s).world.nodes ≡ None
+goes g n s = goes_to g (depth_of s.world) s.world.limits.slots n s (omega arith)
 
 -- nothing goes twice
-not_again : (n : ℕ) (s : State) → form_at n s.world.nodes ≡ None → free_one n s ≡ s
-not_again n s e = free_none (Holding []) (depth_of s.world) n s e
+pub not_again : (g : Guard) (n : ℕ) (s : State) → form_at n s.world.nodes ≡ None → free g n s ≡ s
+not_again g n s e = free_none g (depth_of s.world) n s e
 
 dead_is : (o : Option Form) → is_some o ≡ false → o ≡ None
 dead_is None e = refl
@@ -70,30 +70,30 @@ some_none m e = cc
 
 -- ---- the loop's own set
 
-newest_case : (b : Bool) (m t : ℕ) (ms : List ℕ) (s : State) → is_live s.world m ≡ b → find (is_live s.world) (m ∷ ms) ≡ Some t
-    → (find (is_live s.world) ms ≡ Some t → each_freed free_one ms s ≡ each_freed free_one ms (free_one t s))
-    → each_freed free_one (m ∷ ms) s ≡ each_freed free_one (m ∷ ms) (free_one t s)
-newest_case true m t ms s e h more =
+newest_case : (g : Guard) (b : Bool) (m t : ℕ) (ms : List ℕ) (s : State) → is_live s.world m ≡ b → find (is_live s.world) (m ∷ ms) ≡ Some t
+    → (find (is_live s.world) ms ≡ Some t → each_freed (free g) ms s ≡ each_freed (free g) ms (free g t s))
+    → each_freed (free g) (m ∷ ms) s ≡ each_freed (free g) (m ∷ ms) (free g t s)
+newest_case g true m t ms s e h more =
     let same : m ≡ t = some_same m t (sym (find_here (is_live s.world) m ms e) ∙ h) in
-    ap (λ (j : ℕ). each_freed free_one ms (free_one j s)) same
-    ∙ ap (λ (u : State). each_freed free_one ms u) (sym (subst (λ (j : ℕ). free_one j (free_one t s) ≡ free_one t s) (sym same) (not_again t (free_one t s) (goes t s))))
-newest_case false m t ms s e h more =
+    ap (λ (j : ℕ). each_freed (free g) ms (free g j s)) same
+    ∙ ap (λ (u : State). each_freed (free g) ms u) (sym (subst (λ (j : ℕ). free g j (free g t s) ≡ free g t s) (sym same) (not_again g t (free g t s) (goes g t s))))
+newest_case g false m t ms s e h more =
     let dead = dead_is (form_at m s.world.nodes) e in
-    ap (λ (u : State). each_freed free_one ms u) (not_again m s dead)
+    ap (λ (u : State). each_freed (free g) ms u) (not_again g m s dead)
     ∙ more (sym (find_later (is_live s.world) m ms e) ∙ h)
-    ∙ ap (λ (u : State). each_freed free_one ms u) (sym (not_again m (free_one t s) (stays_dead t m s dead)))
+    ∙ ap (λ (u : State). each_freed (free g) ms u) (sym (not_again g m (free g t s) (stays_dead g t m s dead)))
 
-newest_first : (l : List ℕ) (t : ℕ) (s : State) → find (is_live s.world) l ≡ Some t → each_freed free_one l s ≡ each_freed free_one l (free_one t s)
-newest_first [] t s h = cc
-newest_first (m ∷ ms) t s h = newest_case (is_live s.world m) m t ms s refl h (newest_first ms t s)
+pub newest_first : (g : Guard) (l : List ℕ) (t : ℕ) (s : State) → find (is_live s.world) l ≡ Some t → each_freed (free g) l s ≡ each_freed (free g) l (free g t s)
+newest_first g [] t s h = cc
+newest_first g (m ∷ ms) t s h = newest_case g (is_live s.world m) m t ms s refl h (newest_first g ms t s)
 
 -- the newest task goes first
 pub newest_goes : (t : ℕ) (s : State) → newest_task s.world ≡ Some t → detached_closed (free_one t s) ≡ detached_closed s
-newest_goes t s h = ap (λ (l : List ℕ). each_freed free_one (reverse l) (free_one t s)) (same_tasks t s) ∙ sym (newest_first (reverse s.world.detached) t s h)
+newest_goes t s h = ap (λ (l : List ℕ). each_freed free_one (reverse l) (free_one t s)) (same_tasks t s) ∙ sym (newest_first (Holding []) (reverse s.world.detached) t s h)
 
 none_case : (b : Bool) (m : ℕ) (ms : List ℕ) (s : State) → is_live s.world m ≡ b → find (is_live s.world) (m ∷ ms) ≡ None → (find (is_live s.world) ms ≡ None → each_freed free_one ms s ≡ s) → each_freed free_one (m ∷ ms) s ≡ s
 none_case true m ms s e h more = absurd (some_none m (sym (find_here (is_live s.world) m ms e) ∙ h))
-none_case false m ms s e h more = ap (λ (u : State). each_freed free_one ms u) (not_again m s (dead_is (form_at m s.world.nodes) e)) ∙ more (sym (find_later (is_live s.world) m ms e) ∙ h)
+none_case false m ms s e h more = ap (λ (u : State). each_freed free_one ms u) (not_again (Holding []) m s (dead_is (form_at m s.world.nodes) e)) ∙ more (sym (find_later (is_live s.world) m ms e) ∙ h)
 
 none_first : (l : List ℕ) (s : State) → find (is_live s.world) l ≡ None → each_freed free_one l s ≡ s
 none_first [] s h = refl
@@ -139,8 +139,8 @@ fewer zero t w v f below live dead = absurd (omega (arith, below))
 fewer (suc k) t w v f below live dead = fewer_case (nat_eq t k) k t w v refl f below live dead (λ less. fewer k t w v f less live dead)
 
 -- there are fewer when a live one goes with its tree
-pub fewer_live : (k t : ℕ) (s : State) → t < k → is_live s.world t ≡ true → live_below k (free_one t s).world < live_below k s.world
-fewer_live k t s below live = fewer k t s.world (free_one t s).world (λ m dead. ap is_some (stays_dead t m s (dead_is (form_at m s.world.nodes) dead))) below live (ap is_some (goes t s))
+pub fewer_live : (g : Guard) (k t : ℕ) (s : State) → t < k → is_live s.world t ≡ true → live_below k (free g t s).world < live_below k s.world
+fewer_live g k t s below live = fewer k t s.world (free g t s).world (λ m dead. ap is_some (stays_dead g t m s (dead_is (form_at m s.world.nodes) dead))) below live (ap is_some (goes g t s))
 
 some_case : (b : Bool) (k t : ℕ) (w : World) → nat_eq t k ≡ b → t < suc k → is_live w t ≡ true → (t < k → 0 < live_below k w) → 0 < live_below (suc k) w
 some_case true k t w e below live more =
@@ -150,7 +150,7 @@ some_case true k t w e below live more =
 some_case false k t w e below live more = let less : t < k = grind (arith, nat_tests) in let a = more less in omega (arith, a)
 
 -- and where there are none, none lives
-some_live : (k t : ℕ) (w : World) → t < k → is_live w t ≡ true → 0 < live_below k w
+pub some_live : (k t : ℕ) (w : World) → t < k → is_live w t ≡ true → 0 < live_below k w
 some_live zero t w below live = absurd (omega (arith, below))
 some_live (suc k) t w below live = some_case (nat_eq t k) k t w refl below live (λ less. some_live k t w less live)
 

@@ -1,6 +1,7 @@
 -- Sides that have fired, and Races.
 use Rattle.std.proofs.Common.{◌≡◌, ◌∙◌, refl, sym, ap, subst, ℕ, Option, None, Some, Bool, true, false, arith}
 use Rattle.std.specs.Prelude.{nat_eq}
+use Rattle.std.proofs.lemmas.Bool.{false≢true}
 use Rattle.std.proofs.lemmas.Bool.Decides.{nat_tests}
 use Rattle.kj_base.specs.declared.numbers.NodeId.{NodeId}
 use Rattle.kj_base.specs.declared.nodes.Link.{Link}
@@ -49,7 +50,7 @@ race_stays side race t l r form w h k = race_case (nat_eq side race) side race t
 pub maybe_kept : (stage : StageCase) (o : Option Form) → MayBeSide o → KeepsKind (SideCase stage) o
 maybe_kept stage None h = tt
 maybe_kept stage (Some (Side seen)) h = (refl, refl)
-maybe_kept stage (Some _) h = absurd h
+maybe_kept stage (Some _) h = absurd (false≢true h)
 
 freed_some : Option ℕ → State → State
 freed_some None s = s
@@ -94,13 +95,13 @@ side_case true side other t w e h may =
     let same : side ≡ other = grind (arith, nat_tests) in
     let after = form_put_same side (Side (Fired t)) (Side (Waits t)) w.nodes h in
     subst (λ (n : ℕ). Spares (form_at n w.nodes) (form_at n (with_form side (Side (Fired t)) w.nodes))) same
-    (record { side = subst MayBeSide (sym after) tt; tree = ap tree_of after ∙ sym (ap tree_of h) })
+    (record { side = subst MayBeSide (sym after) refl; tree = ap tree_of after ∙ sym (ap tree_of h) })
 
 decided_case : (b : Bool) (race left side t other : ℕ) (w : World) → nat_eq race other ≡ b → form_at side w.nodes ≡ Some (Side (Waits t)) → form_at race w.nodes ≡ Some (Race left (next_number left) None) → MayBeSide (form_at other w.nodes)
     → Spares (form_at other w.nodes) (form_at other (race_decided race left side t w).nodes)
 decided_case true race left side t other w e h k may =
     let same : race ≡ other = grind (arith, nat_tests) in
-    absurd (subst MayBeSide (sym (ap (λ (n : ℕ). form_at n w.nodes) same) ∙ k) may)
+    absurd (false≢true (subst MayBeSide (sym (ap (λ (n : ℕ). form_at n w.nodes) same) ∙ k) may))
 decided_case false race left side t other w e h k may =
     let v = put side (Side (Fired t)) w in
     subst (λ (o : Option Form). Spares (form_at other w.nodes) o) (sym (form_put_other race other (Race left (next_number left) (Some side)) v.nodes e))

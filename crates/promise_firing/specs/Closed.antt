@@ -1,7 +1,12 @@
 -- Trees that go at the closing.
-use Rattle.std.specs.Prelude.{ℕ, zero, suc, ◌+◌, Option, None, Some, [], cond}
-use Rattle.kj_model.specs.World.{World, State}
-use Rattle.kj_model.specs.Free.{Holding, free}
+use Rattle.std.specs.Prelude.{ℕ, zero, suc, ◌+◌, Option, None, Some, [], cond, false}
+use Rattle.kj_base.specs.declared.nodes.Form.{Form as FormCase}
+use Rattle.kj_base.specs.declared.nodes.Form.TheVariants.{Hub as HubCase}
+use Rattle.kj_model.specs.World.{World, State, Held, held_at}
+use Rattle.kj_model.specs.Changes.{silent, unnamed}
+use Rattle.kj_model.specs.Effects.{hub_unnamed}
+use Rattle.kj_model.specs.Free.{Holding, Every, free, reference_gone}
+use Rattle.kj_model.specs.Calls.{closed_held}
 use Rattle.promise_nodes.specs.Kept.{is_live}
 
 -- a tree goes while no event fires
@@ -12,6 +17,28 @@ free_one n s = free (Holding []) n s
 abbrev pub found_freed : Option ℕ → State → State
 found_freed None s = s
 found_freed (Some n) s = free_one n s
+
+-- a hub goes with its tree, and no other hub
+abbrev pub free_hub : ℕ → State → State
+free_hub n s = free Every n s
+
+-- a hub has no name now, and goes where it has no branch
+abbrev pub hub_name_closed : ℕ → State → State
+hub_name_closed hub s = reference_gone (Holding []) free_one hub (silent (hub_unnamed hub) s)
+
+-- what was held goes, where something was
+abbrev pub found_closed : Option Held → State → State
+found_closed None s = s
+found_closed (Some held) s = closed_held held s
+
+-- a name goes, and then what it held
+abbrev pub name_closed : ℕ → State → State
+name_closed name s = found_closed (held_at name s.world.names) (silent (unnamed name) s)
+
+-- the form of a hub without its name, where it is a hub's
+abbrev pub unnamed_form : FormCase → Option FormCase
+unnamed_form (HubCase content is_named) = Some (HubCase content false)
+unnamed_form other = None
 
 -- how many nodes live with numbers below this one
 abbrev pub live_below : ℕ → World → ℕ

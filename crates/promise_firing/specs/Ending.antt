@@ -2,7 +2,7 @@
 use Rattle.std.specs.Prelude.{ℕ, List, Option, Some}
 use Rattle.kj_base.specs.declared.outcomes.Outcome.{Outcome}
 use Rattle.kj_base.specs.Record.{Item, Tells}
-use Rattle.kj_model.specs.World.{World, State, Setting}
+use Rattle.kj_model.specs.World.{World, Setting}
 use Rattle.kj_model.specs.Fire.{task_valued}
 use Rattle.promise_walks.specs.Walks.{Moves}
 

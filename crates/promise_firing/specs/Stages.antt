@@ -1,11 +1,11 @@
 -- Sides that fire, under a Race or a join.
-use Rattle.std.specs.Prelude.{◌≡◌, ℕ, List, Option, None, Some, ◌==◌}
-use Rattle.kj_base.specs.Record.{Item}
+use Rattle.std.specs.Prelude.{◌≡◌, ℕ, List, Option, None, Some, true}
 use Rattle.kj_model.specs.Nodes.{Form, Entry, Stage, Waits, Fired, Keeps, Gone, Side, Race, Join, form_at}
 use Rattle.kj_model.specs.World.{World, State, Setting}
-use Rattle.kj_model.specs.Changes.{put, silent}
-use Rattle.kj_model.specs.Fire.{race_fired, join_fired, other_side, tree_freed}
-use Rattle.promise_nodes.specs.Kept.{IsLive}
+use Rattle.kj_model.specs.Fire.{race_fired, join_fired}
+use Rattle.kj_ownership.specs.Shapes.{OfSide, suits}
+use Rattle.kj_ownership.specs.Firing.{race_decided as decided, loser as other_of, MayWin as Wins}
+pub use Rattle.kj_ownership.specs.Firing.{side_emptied}
 use Rattle.promise_nodes.specs.Shown.{node_number, next_number, run_from}
 use Rattle.promise_firing.specs.declared.owners.Joined.{Joined}
 use Rattle.promise_firing.specs.declared.owners.Above.{Above}
@@ -34,9 +34,7 @@ IsOwner above (Some owner) = IsAbove above owner.number owner.form
 
 -- a Side, or no node
 abbrev pub MayBeSide : Option Form → Type 0
-MayBeSide None = Unit {0}
-MayBeSide (Some (Side stage)) = Unit {0}
-MayBeSide other = ⊥
+MayBeSide o = suits OfSide o ≡ true
 
 -- the tree of each stage
 abbrev pub stage_tree : Stage → Option ℕ
@@ -50,21 +48,16 @@ abbrev pub tree_of : Option Form → Option ℕ
 tree_of (Some (Side stage)) = stage_tree stage
 tree_of other = None
 
--- the tree of a Side is freed, and nothing is left there
-abbrev pub side_emptied : ℕ → State → State
-side_emptied side s = silent (put side (Side Gone)) (tree_freed (form_at side s.world.nodes) s)
-
 -- the first Side of a Race has fired
 abbrev pub race_decided : ℕ → ℕ → ℕ → ℕ → World → World
-race_decided race left side tree w = put race (Race left (next_number left) (Some side)) (put side (Side (Fired tree)) w)
+race_decided race left side tree w = decided race left (next_number left) side tree w
 
 -- the other Side of a Race of these two
 abbrev pub loser : ℕ → ℕ → ℕ
-loser left side = other_side (left == side) left (next_number left)
+loser left side = other_of left (next_number left) side
 
--- the Race waits for its first Side; it still lives when the other's tree was freed
+-- the Race waits for its first Side, which may win it
 pub record MayWin (race left side tree : ℕ) (w : World) : Type 0 where
   pub waits : form_at side w.nodes ≡ Some (Side (Waits tree))
   pub race_is : form_at race w.nodes ≡ Some (Race left (next_number left) None)
-  pub other : MayBeSide (form_at (loser left side) w.nodes)
-  pub outlives : (past : List Item) → IsLive (side_emptied (loser left side) (record { world = race_decided race left side tree w; past = past })).world race
+  pub wins : Wins race left (next_number left) side tree w

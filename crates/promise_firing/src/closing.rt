@@ -1,6 +1,7 @@
 //! Trees that go when a loop is closed.
 ghost use Rattle.std.specs.Prelude.{◌≡◌, ◌≤◌, length, slice_get, vec_capacity};
 ghost use Rattle.kj_model.specs.Calls.{left_over_closed, detached_closed};
+ghost use Rattle.promise_nodes.specs.Shown.{link_number};
 ghost use Rattle.promise_walks.specs.Walks.{Both, Does};
 ghost use Rattle.promise_firing.specs.Closed.{free_one, found_freed};
 ghost use Rattle.promise_firing.specs.Ground.{IsSound, Keeps, ground};
@@ -12,7 +13,7 @@ use promise_nodes::Nodes;
 use promise_walks::{Frame, Guard, Parts, free_tree};
 
 // A tree goes while no event fires.
-fn close_tree<N: Nodes, M: Names, S: Steps>(
+pub(crate) fn close_tree<N: Nodes, M: Names, S: Steps>(
     nodes: &mut N,
     names: &mut M,
     frames: &mut Vec<Frame>,
@@ -37,6 +38,27 @@ fn close_tree<N: Nodes, M: Names, S: Steps>(
     );
 }
 
+// A tree goes, where there is one.
+pub(crate) fn close_found<N: Nodes, M: Names, S: Steps>(
+    nodes: &mut N,
+    names: &mut M,
+    frames: &mut Vec<Frame>,
+    search: &mut Vec<Parts>,
+    tree: Option<Link>,
+    steps: &mut S,
+)
+    requires sound { IsSound (ground (N.is_taken nodes.old) (N.is_plain nodes.old) (N.next nodes.old) (N.slots nodes.old) (M.roots names.old) (M.count names.old) (M.limit names.old) (vec_capacity frames.old) (vec_capacity search.old)) }
+    ensures does { Does (Both (N.stands nodes.old) (M.stands names.old)) (Both (N.stands nodes.new) (M.stands names.new)) (found_freed (link_number tree)) (λ s. s) (S.told steps.old) (S.told steps.new) }
+    ensures lacks { S.lacks steps.new ≡ S.lacks steps.old }
+    ensures kept { Keeps (ground (N.is_taken nodes.old) (N.is_plain nodes.old) (N.next nodes.old) (N.slots nodes.old) (M.roots names.old) (M.count names.old) (M.limit names.old) (vec_capacity frames.old) (vec_capacity search.old)) (ground (N.is_taken nodes.new) (N.is_plain nodes.new) (N.next nodes.new) (N.slots nodes.new) (M.roots names.new) (M.count names.new) (M.limit names.new) (vec_capacity frames.new) (vec_capacity search.new)) }
+    ensures over { M.over names.new ≡ M.over names.old }
+{
+    match tree {
+        Some(tree) => close_tree(nodes, names, frames, search, tree, steps),
+        None => {}
+    }
+}
+
 // The tree at this place of those left over goes, where there is one.
 fn close_place<N: Nodes, M: Names, S: Steps>(
     nodes: &mut N,
@@ -52,10 +74,8 @@ fn close_place<N: Nodes, M: Names, S: Steps>(
     ensures kept { Keeps (ground (N.is_taken nodes.old) (N.is_plain nodes.old) (N.next nodes.old) (N.slots nodes.old) (M.roots names.old) (M.count names.old) (M.limit names.old) (vec_capacity frames.old) (vec_capacity search.old)) (ground (N.is_taken nodes.new) (N.is_plain nodes.new) (N.next nodes.new) (N.slots nodes.new) (M.roots names.new) (M.count names.new) (M.limit names.new) (vec_capacity frames.new) (vec_capacity search.new)) }
     ensures over { M.over names.new ≡ M.over names.old }
 {
-    match names.left_over(place) {
-        Some(tree) => close_tree(nodes, names, frames, search, tree, steps),
-        None => {}
-    }
+    let tree = names.left_over(place);
+    close_found(nodes, names, frames, search, tree, steps);
 }
 
 /// The trees that are left over go, in order; there are two at most.

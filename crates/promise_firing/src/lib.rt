@@ -4,6 +4,8 @@
 mod branches;
 mod chain;
 mod closing;
+mod closing_all;
+mod closing_names;
 mod event;
 mod going;
 mod keeping;
@@ -15,6 +17,8 @@ mod task;
 pub use branches::keep_for_branches;
 pub use chain::end_chain;
 pub use closing::{close_detached, close_left_over};
+pub use closing_all::{close_all, close_hubs};
+pub use closing_names::close_names;
 pub use event::{end_event, take_event};
 pub use keeping::keep_outcome;
 pub use owners::{Above, Joined, above_side};

@@ -11,8 +11,8 @@ pub fn one_line()
     ensures { (text : List ℕ) (a b : Meaning) → Means text a → Means text b → a ≡ b }
 {}
 
-/// A text is the text of one script at most, and has one line at fault at most. So whatever it is read as is one thing, as
-/// long as memory lasts.
+/// A text is the text of one script at most, and has one line at fault at most. So whatever it is
+/// read as is one thing, as long as memory lasts.
 pub fn one_script()
     ensures script { (text : List ℕ) (a b : Script) → IsScriptText text a → IsScriptText text b
         → a ≡ b }
@@ -24,7 +24,8 @@ pub fn one_script()
         → (a ≡ Err ReadRefused.NoMemory → ⊥) → (b ≡ Err ReadRefused.NoMemory → ⊥) → a ≡ b }
 {}
 
-/// Octets are the text of a script, or have a bad line, or a line that isn't built; and no two of these hold.
+/// Octets are the text of a script, or have a bad line, or a line that isn't built; and no two of
+/// these hold.
 pub fn some_script()
     ensures some { (text : List ℕ) → ((script : Script) × IsScriptText text script)
         ⊎ (((line : ℕ) × IsBadLine text line) ⊎ ((line : ℕ) × IsNotBuiltLine text line)) }

@@ -13,7 +13,8 @@ use crate::verbs::{Verb, read_verb};
 use kj_base::{Ending, Limits, MAX_NAMES, MAX_SLOTS, NoMemory, StepId};
 use std::alloc::{AllocError, Global};
 
-/// The most spaces in a line that means something and is no remark: those of a name and 16 words behind the first word.
+/// The most spaces in a line that means something and is no remark: those of a name and 16 words
+/// behind the first word.
 const MOST_SPACES: usize = 17;
 
 // Whether a loop may have these limits.

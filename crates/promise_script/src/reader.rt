@@ -12,8 +12,8 @@ use promise_commands::Script;
 use std::alloc::{AllocError, Global};
 use thiserror::Error;
 
-/// Why a text was not read. A line is told by its number, from 1: the first that no script has behind the lines before it,
-/// or the one behind the last where a body isn't closed.
+/// Why a text was not read. A line is told by its number, from 1: the first that no script has
+/// behind the lines before it, or the one behind the last where a body isn't closed.
 #[derive(Clone, Copy, Debug, PartialEq, Eq, Error)]
 pub enum ReadRefused {
     #[error("line {line} is bad")]
@@ -104,7 +104,8 @@ fn stand_line(
     number: u32,
     text: &[u8],
 ) -> Result<bool, NoMemory>
-    ensures { IfOk result (λ stands. Answers stands (line_stood number reading.old text.now) reading.new) }
+    ensures { IfOk result
+        (λ stands. Answers stands (line_stood number reading.old text.now) reading.new) }
 {
     match find_meaning(alloc, text)? {
         Some(meaning) => reading.stand(number, meaning),
@@ -127,8 +128,8 @@ fn finish(reading: Reading, number: u32) -> Result<Script, ReadRefused>
     })
 }
 
-/// Reads a script, line by line: lines end with LF, the last may end with the text. An `Err` tells the first line that no
-/// script has behind the lines before it, or that memory ran out.
+/// Reads a script, line by line: lines end with LF, the last may end with the text. An `Err` tells
+/// the first line that no script has behind the lines before it, or that memory ran out.
 pub fn read(alloc: Global, octets: &[u8]) -> Result<Script, ReadRefused>
     requires { length octets.now < 2 ^ 32 }
     ensures text { IsReadAs octets.now result }
@@ -140,7 +141,8 @@ pub fn read(alloc: Global, octets: &[u8]) -> Result<Script, ReadRefused>
 // Reads the lines one after another.
 fn read_lines(alloc: Global, octets: &[u8]) -> Result<Script, ReadRefused>
     requires { length octets.now < 2 ^ 32 }
-    ensures { (result ≡ Err ReadRefused.NoMemory → ⊥) → result ≡ script_read 0 before_lines (lines_of octets.now) }
+    ensures { (result ≡ Err ReadRefused.NoMemory → ⊥)
+        → result ≡ script_read 0 before_lines (lines_of octets.now) }
 {
     let mut reading = new_reading(alloc);
     let mut rest = octets;

@@ -65,7 +65,8 @@ impl Reading {
     }
 
     fn command(&mut self, number: u32, command: Command) -> Result<bool, NoMemory>
-        ensures { IfOk result (λ stands. Answers stands (commanded number command self.old) self.new) }
+        ensures { IfOk result
+            (λ stands. Answers stands (commanded number command self.old) self.new) }
     {
         match &mut self.part {
             Some(part) => Ok(part.commands.push(command)),

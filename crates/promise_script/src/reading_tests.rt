@@ -124,7 +124,7 @@ fn tells_what_is_not_built(rt: HostRuntime) -> Result<(), Fail> {
     Ok(())
 }
 
-// Whether a text that is cut behind so many octets has this fault, for each cut from the first to the last.
+// Whether a text that is cut behind so many octets has this fault, for each of these cuts.
 fn cuts_have(
     alloc: Global,
     text: &[u8],

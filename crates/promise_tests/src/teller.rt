@@ -22,6 +22,8 @@ pub const GIVES_PROMISE: StepId = StepId(3);
 pub const IS_REFUSED: StepId = StepId(4);
 /// The step that finds no memory.
 pub const LACKS: StepId = StepId(5);
+/// The step that builds nothing and gives the promise of name 50, where it is there.
+pub const GIVES_FOUND: StepId = StepId(6);
 
 /// Tells what ran and what was freed. Steps but those above pass their input on.
 #[derive(Drop)]
@@ -69,7 +71,7 @@ fn ending_of(step: StepId) -> Ending {
             code: 2000,
         });
     }
-    if step == GIVES_PROMISE {
+    if step == GIVES_PROMISE || step == GIVES_FOUND {
         return Ending::Promise(Name(50));
     }
     Ending::Input

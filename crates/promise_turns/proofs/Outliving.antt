@@ -1,12 +1,12 @@
 -- What the laws of ownership tell of the node whose event fires.
-use Rattle.std.proofs.Common.{◌≡◌, ◌∙◌, sym, ap, subst, ℕ, [], ◌∷◌, Option, None, Some, Bool, true, false}
+use Rattle.std.proofs.Common.{◌≡◌, ◌∙◌, sym, ap, subst, ℕ, [], ◌∷◌, None, Some, Bool, true, false}
 use Rattle.std.proofs.lemmas.Bool.{false≢true}
 use Rattle.kj_model.specs.Nodes.{Form, Entry, Side, Waits, Chain, Race, Join, form_at, owner_of, parts_found, is_in}
 use Rattle.kj_model.specs.World.{State, Setting}
 use Rattle.kj_model.specs.Value.{Given, Gave, Took, value_link}
 use Rattle.kj_model.proofs.Members.{in_self}
 use Rattle.kj_ownership.specs.Owners.{owns}
-use Rattle.kj_ownership.specs.Shapes.{Kind, OfTree, OfSide, part_kind, suits}
+use Rattle.kj_ownership.specs.Shapes.{Kind, OfTree, OfSide, part_kind}
 use Rattle.kj_ownership.specs.Firing.{IsFiring}
 use Rattle.kj_ownership.specs.Fits.{Fits}
 use Rattle.kj_ownership.proofs.Giving.{link_place}
@@ -15,7 +15,7 @@ use Rattle.kj_ownership.proofs.Winning.{may_win}
 use Rattle.promise_nodes.specs.Kept.{OwnsTree}
 use Rattle.promise_nodes.specs.Shown.{next_number}
 use Rattle.promise_firing.specs.Outliving.{MayEnd}
-use Rattle.promise_firing.specs.Stages.{MayBeSide, MayWin}
+use Rattle.promise_firing.specs.Stages.{MayWin}
 
 -- a node owns its only part
 pub owned : (n tree : ℕ) (s : State) → parts_found (form_at n s.world.nodes) ≡ tree ∷ [] → owns n tree s.world.nodes ≡ true
@@ -39,11 +39,6 @@ may_end setting n link (Took root) s fits f at e = λ past.
     let t = link_place setting n link root s past fits f at e in
     record { lives = t.lives; place = record { apart = t.apart; placed = λ owner is. owns_tree n owner.form (t.placed owner is) } }
 
-may_be_side : (o : Option Form) → suits OfSide o ≡ true → MayBeSide o
-may_be_side None e = tt
-may_be_side (Some (Side stage)) e = tt
-may_be_side (Some _) e = absurd (false≢true e)
-
 -- the owner that was found
 pub owner_found : (n number : ℕ) (form : Form) (s : State) → IsFiring n s → (owner : Entry) → owner_of n s.world.nodes ≡ Some owner → owner.number ≡ number → owner.form ≡ form → (form_at number s.world.nodes ≡ Some form) × (owns number n s.world.nodes ≡ true)
 owner_found n number form s f owner is number_is form_is =
@@ -52,6 +47,4 @@ owner_found n number form s f owner is number_is form_is =
 
 -- a Race without a winner may be won
 pub wins : (race left side tree : ℕ) (s : State) → IsFiring side s → form_at side s.world.nodes ≡ Some (Side (Waits tree)) → form_at race s.world.nodes ≡ Some (Race left (next_number left) None) → owns race side s.world.nodes ≡ true → MayWin race left side tree s.world
-wins race left side tree s f waits race_is owned =
-    let m = may_win race left (next_number left) side tree s f waits race_is owned in
-    record { waits = waits; race_is = race_is; other = may_be_side _ m.other; outlives = m.outlives }
+wins race left side tree s f waits race_is owned = record { waits = waits; race_is = race_is; wins = may_win race left (next_number left) side tree s f waits race_is owned }

@@ -8,8 +8,10 @@ use Rattle.kj_model.specs.World.{State, Setting}
 use Rattle.kj_model.specs.Changes.{silent}
 use Rattle.kj_model.specs.Calls.{Idle, Stopped, turn, turn_at, turn_unless, rewound_world}
 use Rattle.kj_ownership.specs.Standing.{IsRecorded}
+use Rattle.kj_ownership.specs.Requests.{NamesNoRequest}
 use Rattle.kj_ownership.proofs.Changed.{live_event}
 use Rattle.kj_ownership.proofs.Taking.{takes_event}
+use Rattle.kj_ownership.proofs.Requests.{no_request}
 use Rattle.promise_firing.specs.Events.{event_taken}
 use Rattle.promise_turns.specs.Events.{FromTaken}
 use Rattle.promise_turns.specs.Turns.{MayTurn, turned_at}
@@ -34,8 +36,8 @@ pub idle_is : (setting : Setting) (s : State) → s.world.stopped ≡ false → 
 idle_is setting s runs head = turns_by None setting s runs head
 
 -- the first event is taken, fires and ends
-pub taken_is : (n : ℕ) (setting : Setting) (s : State) → MayTurn setting s → s.world.stopped ≡ false → head_of s.world.queue ≡ Some n → FromTaken n setting (silent (event_taken (Some n)) s) × (turned_at n setting (silent (event_taken (Some n)) s) ≡ turn setting s)
-taken_is n setting s may runs head = (
-  (may.0, λ positive. takes_event n s may.1 runs head positive, zero_is_none s may.1.owned.recorded, may.2 runs n head),
+pub taken_is : (n : ℕ) (setting : Setting) (s : State) → MayTurn setting s → NamesNoRequest s.world → s.world.stopped ≡ false → head_of s.world.queue ≡ Some n → FromTaken n setting (silent (event_taken (Some n)) s) × (turned_at n setting (silent (event_taken (Some n)) s) ≡ turn setting s)
+taken_is n setting s may none runs head = (
+  (may.0, λ positive. takes_event n s may.1 runs head positive, zero_is_none s may.1.owned.recorded, no_request s n may.1 runs none),
   sym (turns_by (Some n) setting s runs head),
 )

@@ -1,11 +1,10 @@
 -- What turns answer, against the definitions.
-use Rattle.std.specs.Prelude.{◌≡◌, ℕ, Bool, true, false}
+use Rattle.std.specs.Prelude.{ℕ, Bool, true, false}
 use Rattle.kj_model.specs.World.{State, Setting}
 use Rattle.kj_model.specs.Changes.{silent}
 use Rattle.kj_model.specs.Calls.{Turned, Fired, Idle, NoMemory, Stopped, after_turn}
 use Rattle.kj_ownership.specs.Fits.{Fits}
 use Rattle.kj_ownership.specs.Kept.{Rests}
-use Rattle.kj_ownership.specs.Requests.{FiresNoRequest}
 use Rattle.promise_turns.specs.declared.turned.Turned.{Turned as TurnedCase}
 use Rattle.promise_turns.specs.declared.turned.Turned.TheVariants.{Fired as FiredCase, Idle as IdleCase, NoMemory as NoMemoryCase, Stopped as StoppedCase}
 use Rattle.promise_firing.specs.Events.{event_ended}
@@ -31,7 +30,6 @@ turned_as turned s = (s, turned_of turned)
 abbrev pub turned_at : ℕ → Setting → State → State × Turned
 turned_at n setting s = after_turn (silent event_ended (fired n setting s))
 
--- between two turns, over a store that takes no more nodes than it has slots; where the loop runs, its first event is no
--- Request's
+-- between two turns, over a store that takes no more nodes than it has slots
 abbrev pub MayTurn : Setting → State → Type 0
-MayTurn setting s = Fits setting × Rests s × (s.world.stopped ≡ false → FiresNoRequest s.world)
+MayTurn setting s = Fits setting × Rests s

@@ -75,8 +75,8 @@ fn turn_at<N: Nodes + Drop, M: Names + Drop, S: Steps>(
 
 /// One turn of the loop (kj/async.h, `EventLoop::turn`): the first event of the queue is taken and fires, and what it
 /// arms depth-first goes before all others. A step that finds no memory stops the loop, and only then the answer is
-/// `NoMemory`. Between two turns nothing is left over. No keeper has lists of ended requests yet, so the contract
-/// speaks of turns whose event is no Request's where the loop runs.
+/// `NoMemory`. Between two turns nothing is left over. No keeper has a request's name, so no event is a
+/// Request's.
 pub fn turn<N: Nodes + Drop, M: Names + Drop, S: Steps>(
     over: &mut Evaluator<N, M>,
     steps: &mut S,

@@ -15,10 +15,8 @@ pub const TWO: &[u8] =
 pub const TWO_LOG: &[u8] =
     b"free 1\nrun 2 10 value\nfree 2\nfree 3\nfree 4\nrun 5 11 value\nfree 5\nfree 6\n";
 
-const REFUSAL: &[u8] = b"not built\n";
-
 // Octets, the status of `run` on them, and what it writes.
-const SCRIPTS: [(&[u8], u8, &[u8]); 24] = [
+const SCRIPTS: [(&[u8], u8, &[u8]); 21] = [
     (b"", 0, b""),
     (
         b"later 1\nthen 2 1 10 -\ndetach 2\nturn\n",
@@ -31,7 +29,12 @@ const SCRIPTS: [(&[u8], u8, &[u8]); 24] = [
         0,
         b"refused 2 taken 1\nrefused 3 unknown 2\nidle\nfree 1\n",
     ),
-    (b"pair 1 2", 9, REFUSAL),
+    // A fulfiller is no promise, and a promise no fulfiller.
+    (
+        b"pair 1 2\nthen 3 2 - -\nfulfil 1\n",
+        0,
+        b"refused 2 wrong 2\nrefused 3 wrong 1\nfree 1\n",
+    ),
     // The last line may end with the input.
     (b"later 1\nturn", 0, b"idle\nfree 1\n"),
     // Lines that mean nothing are counted.
@@ -58,24 +61,42 @@ const SCRIPTS: [(&[u8], u8, &[u8]); 24] = [
         0,
         b"free 2\nfree 1\nfree 4\nfree 6\nfree 3\nfree 5\n",
     ),
-    (b"then 1 1 - -\n", 0, b"refused 1 unknown 1\n"),
     (
         b"later 4294967295\ndetach 4294967295\n",
         0,
         b"free 1\nfree 2\n",
     ),
-    (b"later 4294967296\n", 9, REFUSAL),
-    (b"later 01\n", 9, REFUSAL),
-    (b"later -1\n", 9, REFUSAL),
-    (b"later +1\n", 9, REFUSAL),
-    (b"later  1\n", 9, REFUSAL),
-    (b"later 1 \n", 9, REFUSAL),
-    (b" later 1\n", 9, REFUSAL),
-    (b"later 1\r\n", 9, REFUSAL),
-    (b"later\n", 9, REFUSAL),
-    (b"then 2 1 10\n", 9, REFUSAL),
-    (b"turn 1\n", 9, REFUSAL),
-    (b"Turn\n", 9, REFUSAL),
+    // A run of turns tells nothing of an empty queue.
+    (b"later 1\nrun 5\nturn\n", 0, b"idle\nfree 1\n"),
+    // Limits are kept: 8 nodes and 1 name.
+    (
+        b"limits 8 1\nlater 1\nlater 2\ndetach 1\nlater 2\n",
+        0,
+        b"refused 3 full\nfree 3\nfree 1\nfree 2\n",
+    ),
+    // A hub with two branches, of which the first was made first.
+    (
+        b"now 1 5\nfork 2 1\nbranch 3 2\nbranch 4 2\ndetach 3\ndetach 4\nrun 5\n",
+        0,
+        b"free 1\nfree 3\nfree 5\nfree 4\nfree 6\nfree 2\n",
+    ),
+    // A join gives all words of its parts.
+    (
+        b"now 1 5\nnow 2 6\nall 3 1 2\nthen 4 3 9 -\ndetach 4\nrun 5\n",
+        0,
+        b"free 1\nfree 2\nfree 3\nfree 4\nfree 5\nrun 6 9 value 5 6\nfree 6\nfree 7\n",
+    ),
+    // A body's commands, a value, an exception, and bodies by the number of the run.
+    (
+        b"step 7\nvalue 1 2\nstep 7\nthrow overloaded 3\nlater 1\nthen 2 1 7 -\ndetach 2\nlater 3\nthen 4 3 7 8\nthen 5 4 - 8\ndetach 5\nrun 2\n",
+        0,
+        b"free 1\nrun 2 7 value\nfree 2\nfree 3\nfree 4\nrun 5 7 value\nfree 5\nrun 6 8 throw overloaded 3\nfree 6\nfree 7\n",
+    ),
+    (b"later 1\nlater 01\n", 1, b"bad line 2\n"),
+    (b"later 1\r\n", 1, b"bad line 1\n"),
+    (b"turn\nlimits 8 1\n", 1, b"bad line 2\n"),
+    (b"step 1\nlater 1\n", 1, b"bad line 3\n"),
+    (b"later 1\nset 2 -\nturn 1\n", 9, b"not built line 2\n"),
 ];
 
 #[test]
@@ -109,7 +130,7 @@ fn cut_input(rt: HostRuntime) -> Result<(), Fail> {
 }
 
 // What a script logs, where the program ends with 0.
-fn log_of<R: Abort + Wait + Threads + Sync>(
+pub fn log_of<R: Abort + Wait + Threads + Sync>(
     rt: &R,
     alloc: Global,
     octets: &[u8],
@@ -139,5 +160,25 @@ fn full(rt: HostRuntime) -> Result<(), Fail> {
     let log = log_of(&rt, alloc, nodes.as_slice())?;
     let front = b"refused 65537 full\nrefused 65538 full\nfree 65535\nfree 65536\nfree 65533\n";
     assert!(&rt; log.written.as_slice().starts_with(front.as_slice()));
+    Ok(())
+}
+
+// One octet more than the limit: nothing is written.
+#[test]
+fn too_long(rt: HostRuntime) -> Result<(), Fail> {
+    let alloc = rt.alloc();
+    let mut remarks = Bytes::new(alloc);
+    for _ in 0..262_144 {
+        remarks.extend(b"# a remark of sixty-four octets with its end, which means nothi\n")?;
+    }
+    remarks.push(b'#')?;
+    let ended = ran(
+        &rt,
+        alloc,
+        remarks.as_slice(),
+        Vec::new(alloc),
+        Vec::new(alloc),
+    )?;
+    assert!(&rt; ended.is(6, b""));
     Ok(())
 }

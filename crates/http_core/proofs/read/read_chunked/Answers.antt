@@ -18,9 +18,9 @@ returns-in-Whole-clause-steps c framing behind fed =
     let count = c.in-Whole.count in
     let new = c.feed.new.self in
     let a = answers_as behind piece new _ (Whole count) c.in-Whole.is (c.in_ok-feed.ensures.answer behind fed) in
-    let body : Body (behind ++ take count piece) c.body-body.result new.trailer [] = subst (λ (b : List ℕ). Body (behind ++ take count piece) b new.trailer []) (sym c.body-body.ensures) a.2 in
+    let body : Body (behind ++ take count piece) c.into_parts-body.result.0 new.trailer [] = subst (λ (b : List ℕ). Body (behind ++ take count piece) b new.trailer []) (sym c.into_parts-body.ensures) a.2 in
     subst (λ (r : Request). BodyReadsOn c.args.head behind piece (reads.Whole r c.saturating_sub.result)) (sym c.with_body-request.ensures)
-    (refl, omega (arith, c.saturating_sub.ensures), chunked_whole c.args.head behind piece c.body-body.result new.trailer count c.saturating_sub.result framing a.1 c.saturating_sub.ensures body)
+    (refl, omega (arith, c.saturating_sub.ensures), chunked_whole c.args.head behind piece c.into_parts-body.result.0 new.trailer count c.saturating_sub.result framing a.1 c.saturating_sub.ensures body)
 
 pub returns-in-Bad-clause-steps : goal.returns-in-Bad-clause-steps
 returns-in-Bad-clause-steps c framing behind fed =

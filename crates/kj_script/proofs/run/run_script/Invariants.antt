@@ -1,9 +1,19 @@
--- The lines so far lead to this world and this text.
-use Rattle.std.proofs.Common.{◌≡◌, [], Some, false, map, drop}
-use Rattle.loop_core.specs.Cases.{numbered_of}
-use Rattle.kj_script.specs.Told.{told_by}
-use Rattle.kj_script.specs.Running.{IsOnTheWay}
+-- The lines so far lead to this log, and the others are left.
+use Rattle.std.proofs.Common.{◌≡◌, drop, map}
+use Rattle.kj_model.specs.Log.{Logged, limits_or, log_lines, new_log, setting_of}
+use Rattle.kj_model.specs.Places.{table_fits}
+use Rattle.loop_core.specs.Loops.{StandsAt}
+use Rattle.name_table.specs.Table.{Stands as NamesStand}
+use Rattle.node_table.specs.NodeTable.{node_of, Stands as TableStands}
+use Rattle.promise_commands.specs.Scripts.{body_of, numbered_of}
+use Rattle.promise_graph.specs.Standing.{StandsFor}
+use Rattle.promise_steps.specs.Kept.{told_by}
+use Rattle.kj_script.specs.Running.{Shows}
 use Rattle.kj_script.proofs.run.run_script.Given as goal
 
 abbrev pub invariant-loop-line : goal.invariant-loop-line
-invariant-loop-line l = (l.core.stopped ≡ false) × (told_by l.steps ≡ Some []) × IsOnTheWay (map numbered_of l.line-items) (drop l.line-index (map numbered_of l.line-items)) l.core l.text
+invariant-loop-line l =
+    (now : Logged)
+    × Shows (map body_of l.script.bodies) (StandsAt table_fits (StandsFor (node_of l.over.nodes.store) l.over.nodes.queue.events (TableStands l.over.nodes.store) l.over.nodes.marks) (NamesStand l.over.names)) (told_by l.steps) l.text now
+    × (log_lines (setting_of table_fits (map body_of l.script.bodies)) (map numbered_of l.line-items) (new_log (limits_or l.script.limits))
+    ≡ log_lines (setting_of table_fits (map body_of l.script.bodies)) (drop l.line-index (map numbered_of l.line-items)) now)

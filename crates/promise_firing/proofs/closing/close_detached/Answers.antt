@@ -1,5 +1,6 @@
-use Rattle.std.proofs.Common.{◌≡◌, ◌∙◌, ◌≤◌, ◌-◌, sym, ap, subst, ℕ, Some, refl, arith}
+use Rattle.std.proofs.Common.{[], ◌≡◌, ◌∙◌, ◌≤◌, ◌-◌, sym, ap, subst, ℕ, Some, refl, arith}
 use Rattle.kj_model.specs.World.{World, State}
+use Rattle.kj_model.specs.Free.{Holding}
 use Rattle.kj_model.specs.Calls.{detached_closed}
 use Rattle.promise_nodes.specs.Kept.{newest_task}
 use Rattle.promise_nodes.specs.Shown.{link_number}
@@ -38,7 +39,7 @@ closing-preserved g c =
     let newest : (w : World) → B w → newest_task w ≡ Some task = λ w stands. sym (c.newest_task.ensures w stands.0) ∙ ap link_number c.in-Some.is in
     let falls : (s : State) → P s.world → live_below then (free_one task s).world ≤ c.closing.left - 1 = λ s p.
     let lives = newest_lives task s.world (newest s.world p.0) in
-    let fewer = fewer_live next task s (g.met.N.Nodes.tasks_built c.closing.nodes s.world task p.0.0 lives.1) lives.0 in
+    let fewer = fewer_live (Holding []) next task s (g.met.N.Nodes.tasks_built c.closing.nodes s.world task p.0.0 lives.1) lives.0 in
     let same : live_below then (free_one task s).world ≡ live_below next (free_one task s).world = ap (λ (k : ℕ). live_below k (free_one task s).world) done.kept.next_is in
     let few = p.1 in
     omega (arith, fewer, same, few) in

@@ -32,7 +32,7 @@ returns-clause-does g c =
     let may = stands.1 in
     let nodes = c.decide.ensures.stands w stands.0.0 may.waits may.race_is in
     let names = g.met.M.Names.nodes_free c.args.names.now w (race_decided race left side t w) refl stands.0.1 in
-    (((nodes, names), (decided_spares race left side t other w may.waits may.race_is may.other).side), refl)) in
+    (((nodes, names), (decided_spares race left side t other w may.waits may.race_is may.wins.other).side), refl)) in
     let empties = subst (λ (n : ℕ). Does (λ (w : World). Both (g.N.Nodes.stands c.decide.new.nodes) (g.M.Names.stands c.args.names.now) w × MayBeSide (form_at n w.nodes)) C (side_emptied n) (λ s. s) (g.S.Steps.told c.args.steps.now) (g.S.Steps.told c.empty_side.new.steps)) c.loser_of-other.ensures c.empty_side.ensures.does in
     let both = does_both P B C decided (side_emptied other) _ _ _ first empties in
     does_silent P C D (λ s. side_emptied other (decided s)) (race_won race left (next_number left) side other t) (λ s. s) (announced DepthFirst race) _ _ both
@@ -40,8 +40,8 @@ returns-clause-does g c =
     let w = s.world in
     let may = stands.1 in
     let v = (side_emptied other (decided s)).world in
-    let spares = decided_spares race left side t other w may.waits may.race_is may.other in
+    let spares = decided_spares race left side t other w may.waits may.race_is may.wins.other in
     let freed_same = same_freed (form_at other (race_decided race left side t w).nodes) (form_at other w.nodes) (decided s) spares.tree in (
-      (c.announce.ensures.stands v mid.0 (may.outlives s.past), g.met.M.Names.nodes_free c.empty_side.new.names v (announced DepthFirst race v) (announced_names DepthFirst race v) mid.1),
+      (c.announce.ensures.stands v mid.0 (may.wins.outlives s.past), g.met.M.Names.nodes_free c.empty_side.new.names v (announced DepthFirst race v) (announced_names DepthFirst race v) mid.1),
       ap (silent (λ u. announced DepthFirst race (put other (Side Gone) u))) freed_same,
     ))

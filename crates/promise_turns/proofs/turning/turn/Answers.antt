@@ -27,7 +27,7 @@ returns-in-Some-clause-turns g c =
     let C : World → Type 0 = Both (g.N.Nodes.stands c.turn_at.new.over.nodes) (g.M.Names.stands c.turn_at.new.over.names) in
     acts_before A B C g.N.Nodes.rule MayTurn (FromTaken n) (turned_at n) turn (turned_as c.turn_at.result) (event_taken (Some n)) _ _ _ _ c.turn_at.ensures.turns
     (λ w stands. (e.nodes w stands.0, subst (λ names. g.M.Names.stands names (event_taken (Some n) w)) (sym e.names) (g.met.M.Names.nodes_free c.args.over.now.names w (event_taken (Some n) w) refl stands.1)))
-    (λ setting s stands from. taken_is n setting s from (sym (c.if-is_stopped.ensures s.world stands.1)) (sym (e.head s.world stands.0)))
+    (λ setting s stands from. taken_is n setting s from (λ name node. g.met.M.Names.no_requests c.args.over.now.names s.world name node stands.1) (sym (c.if-is_stopped.ensures s.world stands.1)) (sym (e.head s.world stands.0)))
 
 pub returns-in-None-clause-turns : goal.returns-in-None-clause-turns
 returns-in-None-clause-turns g c =
@@ -46,6 +46,6 @@ returns-in-Some-clause-memory g c = λ answer s stands from.
     let e = c.in-Some.ensures in
     let runs = sym (c.if-is_stopped.ensures s.world stands.1) in
     let w = event_taken (Some n) s.world in
-    let taken = taken_is n (setting_of g.N.Nodes.rule answer) s from runs (sym (e.head s.world stands.0)) in
+    let taken = taken_is n (setting_of g.N.Nodes.rule answer) s from (λ name node. g.met.M.Names.no_requests c.args.over.now.names s.world name node stands.1) runs (sym (e.head s.world stands.0)) in
     c.turn_at.ensures.memory answer (silent (event_taken (Some n)) s)
     (e.nodes s.world stands.0, subst (λ names. g.M.Names.stands names w) (sym e.names) (g.met.M.Names.nodes_free c.args.over.now.names s.world w refl stands.1)) taken.0 runs

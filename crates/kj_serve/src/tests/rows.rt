@@ -1,0 +1,106 @@
+//! Longer scripts that were worked out by hand.
+use crate::tests::scripts::log_of;
+use kj_base::{Bytes, NoMemory};
+use std::alloc::Global;
+use std::test::Fail;
+
+// Octets, and the whole log.
+const WHOLE: [(&[u8], &[u8]); 6] = [
+    (
+        b"later 1\nthen 2 1 10 -\ndetach 2\nlater 3\nthen 4 3 11 -\ndetach 4\nrun 2\n",
+        b"free 1\nrun 2 10 value\nfree 2\nfree 3\nfree 4\nrun 5 11 value\nfree 5\nfree 6\n",
+    ),
+    // A step fulfils a cell: what waits for it goes before what was armed already.
+    (
+        b"step 10\nfulfil 5 7\nvalue\npair 4 5\nthen 6 4 11 -\ndetach 6\nlater 1\nthen 2 1 10 -\ndetach 2\nlater 7\nthen 8 7 12 -\ndetach 8\nrun 3\n",
+        b"free 4\nrun 5 10 value\nfree 5\nfree 6\nfree 1\nrun 2 11 value 7\nfree 2\nfree 3\nfree 7\nrun 8 12 value\nfree 8\nfree 9\n",
+    ),
+    // The loser's event is disarmed where the race is evaluated, and fires without effect elsewhere.
+    (
+        b"later 1\nlater 2\nrace 3 1 2\ndetach 3\nrun 3\n",
+        b"free 2\nfree 1\nfree 3\nfree 4\nfree 5\nfree 6\n",
+    ),
+    (
+        b"later 1\nlater 2\nrace 3 1 2\nrun 2\nturn\n",
+        b"free 2\nidle\nfree 1\nfree 3\nfree 4\nfree 5\n",
+    ),
+    // A fulfiller goes without a word: the promise is broken.
+    (
+        b"pair 1 2\nthen 3 1 10 11\ndetach 3\ndropcell 2\nrun 1\n",
+        b"free 1\nrun 2 11 throw failed 1\nfree 2\nfree 3\n",
+    ),
+    (
+        b"pair 1 2\nthen 3 1 10 -\ndetach 3\ndropcell 2\nrun 1\n",
+        b"free 1\nfree 2\nfree 3\n",
+    ),
+];
+
+// Octets, and the lines of runs in the log.
+const RUNS: [(&[u8], &[u8]); 2] = [
+    (
+        b"step 10\nfulfil 21 1\nfulfil 22 2\nvalue\npair 11 21\npair 12 22\nthen 13 11 31 -\nthen 14 12 32 -\ndetach 13\ndetach 14\nlater 1\nthen 2 1 10 -\ndetach 2\nlater 3\nthen 4 3 40 -\ndetach 4\nrun 4\n",
+        b"run 8 10 value\nrun 3 31 value 1\nrun 4 32 value 2\nrun 11 40 value\n",
+    ),
+    // Last events come in the opposite order of arming, after all others.
+    (
+        b"last 1\nthen 2 1 11 -\ndetach 2\nlast 3\nthen 4 3 12 -\ndetach 4\nlater 5\nthen 6 5 13 -\ndetach 6\nrun 3\n",
+        b"run 8 13 value\nrun 5 12 value\nrun 2 11 value\n",
+    ),
+];
+
+// The lines that begin with this word, each with its end.
+fn lines_with(alloc: Global, log: &[u8], word: &[u8]) -> Result<Bytes, NoMemory> {
+    let mut lines = Bytes::new(alloc);
+    for line in log.split(|octet| *octet == b'\n') {
+        if line.starts_with(word) {
+            lines.extend(line)?;
+            lines.push(b'\n')?;
+        }
+    }
+    Ok(lines)
+}
+
+#[test]
+fn whole_logs(rt: HostRuntime) -> Result<(), Fail> {
+    let alloc = rt.alloc();
+    for (octets, text) in WHOLE {
+        let log = log_of(&rt, alloc, octets)?;
+        assert!(&rt; log.written.as_slice() == text, "at {}", octets.len());
+    }
+    Ok(())
+}
+
+#[test]
+fn runs_of_steps(rt: HostRuntime) -> Result<(), Fail> {
+    let alloc = rt.alloc();
+    for (octets, text) in RUNS {
+        let log = log_of(&rt, alloc, octets)?;
+        let runs = lines_with(alloc, log.written.as_slice(), b"run ")?;
+        assert!(&rt; runs.as_slice() == text, "at {}", octets.len());
+    }
+    Ok(())
+}
+
+// A step that gives a promise of the same step, again and again: no more than 24 nodes are ever live.
+#[test]
+fn promise_loop(rt: HostRuntime) -> Result<(), Fail> {
+    let alloc = rt.alloc();
+    let script =
+        b"limits 24 1\nstep 1\nlater 10\nchain 11 10 1 -\npromise 11\nlater 10\nchain 11 10 1 -\ndetach 11\nrun 100000\n";
+    let log = log_of(&rt, alloc, script)?;
+    let text = log.written.as_slice();
+    assert!(&rt; text.starts_with(b"free 1\nrun 2 1 value\nfree 2\nfree 3\n"));
+    assert!(&rt; text.ends_with(b"free 300002\nfree 300003\nfree 300004\nfree 4\n"));
+    let mut runs = 0;
+    let mut frees = 0;
+    for line in text.split(|octet| *octet == b'\n') {
+        if line.starts_with(b"run ") {
+            runs += 1;
+        }
+        if line.starts_with(b"free ") {
+            frees += 1;
+        }
+    }
+    assert_eq!(&rt; (runs, frees), (100_000, 300_004));
+    Ok(())
+}

@@ -1,0 +1,139 @@
+//! What names hold goes when a loop is closed.
+ghost use Rattle.std.specs.Prelude.{◌≡◌, [], vec_capacity};
+ghost use Rattle.kj_model.specs.World.{World};
+ghost use Rattle.kj_model.specs.Effects.{hub_unnamed};
+ghost use Rattle.kj_model.specs.Calls.{closed_held, names_closed};
+ghost use Rattle.promise_nodes.specs.Kept.{OnlyFalls, OnlyRises};
+ghost use Rattle.promise_names.specs.Held.{held_shown};
+ghost use Rattle.promise_walks.specs.Walks.{Both, Does};
+ghost use Rattle.promise_firing.specs.Closed.{hub_name_closed, name_closed, unnamed_form};
+ghost use Rattle.promise_firing.specs.Ground.{IsSound, Keeps, ground};
+
+use crate::closing::{close_found, close_tree};
+use kj_base::{Form, Link, Name};
+use promise_commands::Steps;
+use promise_names::{Held, Names};
+use promise_nodes::Nodes;
+use promise_walks::{Frame, Guard, Parts, free_unreferenced};
+
+// The form of a hub without its name, where it is a hub's.
+fn unnamed_form(form: &Form) -> Option<Form>
+    ensures { result ≡ unnamed_form form.now }
+{
+    match form {
+        Form::Hub { content, .. } => Some(Form::Hub {
+            content: content.copy(),
+            is_named: false,
+        }),
+        _ => None,
+    }
+}
+
+// A hub has no name now.
+fn unname_hub<N: Nodes>(nodes: &mut N, hub: Link)
+    ensures stands { (w : World) → N.stands nodes.old w → N.stands nodes.new (hub_unnamed hub.number.0 w) }
+    ensures taken { OnlyFalls (N.is_taken nodes.old) (N.is_taken nodes.new) }
+    ensures plain { OnlyRises (N.is_plain nodes.old) (N.is_plain nodes.new) }
+    ensures next { N.next nodes.new ≡ N.next nodes.old }
+    ensures slots { N.slots nodes.new ≡ N.slots nodes.old }
+{
+    let Some(form) = nodes.form(hub) else {
+        return;
+    };
+    let Some(unnamed) = unnamed_form(form) else {
+        return;
+    };
+    nodes.put(hub, unnamed);
+}
+
+// The name of a hub goes, and the hub with its tree where it has no branch.
+fn close_hub_name<N: Nodes, M: Names, S: Steps>(
+    nodes: &mut N,
+    names: &mut M,
+    frames: &mut Vec<Frame>,
+    search: &mut Vec<Parts>,
+    hub: Link,
+    steps: &mut S,
+)
+    requires sound { IsSound (ground (N.is_taken nodes.old) (N.is_plain nodes.old) (N.next nodes.old) (N.slots nodes.old) (M.roots names.old) (M.count names.old) (M.limit names.old) (vec_capacity frames.old) (vec_capacity search.old)) }
+    ensures does { Does (Both (N.stands nodes.old) (M.stands names.old)) (Both (N.stands nodes.new) (M.stands names.new)) (hub_name_closed hub.number.0) (λ s. s) (S.told steps.old) (S.told steps.new) }
+    ensures lacks { S.lacks steps.new ≡ S.lacks steps.old }
+    ensures kept { Keeps (ground (N.is_taken nodes.old) (N.is_plain nodes.old) (N.next nodes.old) (N.slots nodes.old) (M.roots names.old) (M.count names.old) (M.limit names.old) (vec_capacity frames.old) (vec_capacity search.old)) (ground (N.is_taken nodes.new) (N.is_plain nodes.new) (N.next nodes.new) (N.slots nodes.new) (M.roots names.new) (M.count names.new) (M.limit names.new) (vec_capacity frames.new) (vec_capacity search.new)) }
+    ensures over { M.over names.new ≡ M.over names.old }
+{
+    unname_hub(nodes, hub);
+    let guard = Guard::Holding(None);
+    free_unreferenced(nodes, names, frames, search, guard, hub, steps);
+}
+
+// What a name held goes: a tree, or the reference of a hub. A cell, a canceler and a set hold nothing that is freed.
+fn close_held<N: Nodes, M: Names, S: Steps>(
+    nodes: &mut N,
+    names: &mut M,
+    frames: &mut Vec<Frame>,
+    search: &mut Vec<Parts>,
+    held: Held,
+    steps: &mut S,
+)
+    requires sound { IsSound (ground (N.is_taken nodes.old) (N.is_plain nodes.old) (N.next nodes.old) (N.slots nodes.old) (M.roots names.old) (M.count names.old) (M.limit names.old) (vec_capacity frames.old) (vec_capacity search.old)) }
+    ensures does { Does (Both (N.stands nodes.old) (M.stands names.old)) (Both (N.stands nodes.new) (M.stands names.new)) (closed_held (held_shown [] held)) (λ s. s) (S.told steps.old) (S.told steps.new) }
+    ensures lacks { S.lacks steps.new ≡ S.lacks steps.old }
+    ensures kept { Keeps (ground (N.is_taken nodes.old) (N.is_plain nodes.old) (N.next nodes.old) (N.slots nodes.old) (M.roots names.old) (M.count names.old) (M.limit names.old) (vec_capacity frames.old) (vec_capacity search.old)) (ground (N.is_taken nodes.new) (N.is_plain nodes.new) (N.next nodes.new) (N.slots nodes.new) (M.roots names.new) (M.count names.new) (M.limit names.new) (vec_capacity frames.new) (vec_capacity search.new)) }
+    ensures over { M.over names.new ≡ M.over names.old }
+{
+    match held {
+        Held::Promise(root) => close_tree(nodes, names, frames, search, root, steps),
+        Held::HubOf(hub) => close_hub_name(nodes, names, frames, search, hub, steps),
+        Held::RequestOf(request) => close_found(nodes, names, frames, search, request, steps),
+        Held::CellOf(_) => {}
+        Held::AskCell { .. } => {}
+        Held::Group { .. } => {}
+        Held::Canceler => {}
+    }
+}
+
+// A name goes, and then what it held.
+fn close_name<N: Nodes, M: Names, S: Steps>(
+    nodes: &mut N,
+    names: &mut M,
+    frames: &mut Vec<Frame>,
+    search: &mut Vec<Parts>,
+    name: Name,
+    steps: &mut S,
+)
+    requires sound { IsSound (ground (N.is_taken nodes.old) (N.is_plain nodes.old) (N.next nodes.old) (N.slots nodes.old) (M.roots names.old) (M.count names.old) (M.limit names.old) (vec_capacity frames.old) (vec_capacity search.old)) }
+    ensures does { Does (Both (N.stands nodes.old) (M.stands names.old)) (Both (N.stands nodes.new) (M.stands names.new)) (name_closed name.0) (λ s. s) (S.told steps.old) (S.told steps.new) }
+    ensures lacks { S.lacks steps.new ≡ S.lacks steps.old }
+    ensures kept { Keeps (ground (N.is_taken nodes.old) (N.is_plain nodes.old) (N.next nodes.old) (N.slots nodes.old) (M.roots names.old) (M.count names.old) (M.limit names.old) (vec_capacity frames.old) (vec_capacity search.old)) (ground (N.is_taken nodes.new) (N.is_plain nodes.new) (N.next nodes.new) (N.slots nodes.new) (M.roots names.new) (M.count names.new) (M.limit names.new) (vec_capacity frames.new) (vec_capacity search.new)) }
+    ensures over { M.over names.new ≡ M.over names.old }
+{
+    let held = names.get(name);
+    names.remove(name);
+    if let Some(held) = held {
+        close_held(nodes, names, frames, search, held, steps);
+    }
+}
+
+/// Each name goes with what it holds, the lowest first.
+pub fn close_names<N: Nodes, M: Names, S: Steps>(
+    nodes: &mut N,
+    names: &mut M,
+    frames: &mut Vec<Frame>,
+    search: &mut Vec<Parts>,
+    steps: &mut S,
+)
+    requires sound { IsSound (ground (N.is_taken nodes.old) (N.is_plain nodes.old) (N.next nodes.old) (N.slots nodes.old) (M.roots names.old) (M.count names.old) (M.limit names.old) (vec_capacity frames.old) (vec_capacity search.old)) }
+    ensures does { Does (Both (N.stands nodes.old) (M.stands names.old)) (Both (N.stands nodes.new) (M.stands names.new)) names_closed (λ s. s) (S.told steps.old) (S.told steps.new) }
+    ensures lacks { S.lacks steps.new ≡ S.lacks steps.old }
+    ensures kept { Keeps (ground (N.is_taken nodes.old) (N.is_plain nodes.old) (N.next nodes.old) (N.slots nodes.old) (M.roots names.old) (M.count names.old) (M.limit names.old) (vec_capacity frames.old) (vec_capacity search.old)) (ground (N.is_taken nodes.new) (N.is_plain nodes.new) (N.next nodes.new) (N.slots nodes.new) (M.roots names.new) (M.count names.new) (M.limit names.new) (vec_capacity frames.new) (vec_capacity search.new)) }
+    ensures over { M.over names.new ≡ M.over names.old }
+{
+    let mut left = names.len();
+    'closing: while left > 0 {
+        let Some(name) = names.first() else {
+            return;
+        };
+        close_name(nodes, names, frames, search, name, steps);
+        left -= 1;
+    }
+}
