@@ -34,7 +34,7 @@ const ROOT_CUT: Cut = Cut {
 pub struct NameTree {
     names: KeyMap<Held>,
     roots: KeyMap<Name>,
-    is_known: bool,
+    pub(crate) is_known: bool,
     limit: u32,
     awaited: Option<Name>,
     over: Vec<Link>,

@@ -66,6 +66,8 @@ fn calls_do_what_those_of_a_table_do(rt: HostRuntime) -> Result<(), Fail> {
         most = names.len().max(most);
     }
     assert_eq!(rt; most, MANY.names);
+    // No two names have promised one tree, so each root is known.
+    assert!(rt; names.is_known);
     Ok(())
 }
 
