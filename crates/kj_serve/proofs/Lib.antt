@@ -1,4 +1,5 @@
 pub mod Refused
+pub mod Ran
 pub mod OneForm
 pub mod Listed
 pub mod BadRecord

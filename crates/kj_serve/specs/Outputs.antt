@@ -23,7 +23,7 @@ RunGives input status output =
     ((length input ≤ INPUT_LIMIT) × RunsTo input output × (status ≡ 0))
     ⊎ ((length input ≤ INPUT_LIMIT) × FaultGives IsBadLine bad_line input output × (status ≡ 1))
     ⊎ ((length input ≤ INPUT_LIMIT) × FaultGives IsNotBuiltLine not_built_line input output
-        × (status ≡ 9))
+    × (status ≡ 9))
     ⊎ ((INPUT_LIMIT < length input) × (output ≡ []) × (status ≡ 6))
 
 -- the line of an input that is no recording

@@ -41,9 +41,9 @@ abbrev pub RunPart : Outside → Outside → Type 0
 RunPart before after =
     ((output : List ℕ) × Ran before after output × WroteFrontOf before after output)
     ⊎ ((line : ℕ) × ReadFaulty IsBadLine before after line
-        × WroteFrontOf before after (bad_line line))
+    × WroteFrontOf before after (bad_line line))
     ⊎ ((line : ℕ) × ReadFaulty IsNotBuiltLine before after line
-        × WroteFrontOf before after (not_built_line line))
+    × WroteFrontOf before after (not_built_line line))
 
 -- the command ended with this status
 pub record RunEnds (status : ℕ) (before after : Outside) : Type 0 where
@@ -58,7 +58,7 @@ pub record RunEnds (status : ℕ) (before after : Outside) : Type 0 where
   pub too_long : status ≡ 6 → ReadPast before after × WroteNothing before after
   pub not_built : status ≡ 9
       → (line : ℕ) × ReadFaulty IsNotBuiltLine before after line
-        × Wrote before after (not_built_line line)
+      × Wrote before after (not_built_line line)
   pub statuses :
       (status ≡ 0) ⊎ (status ≡ 1) ⊎ (status ≡ 3) ⊎ (status ≡ 4) ⊎ (status ≡ 5) ⊎ (status ≡ 6)
       ⊎ (status ≡ 9)

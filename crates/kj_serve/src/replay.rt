@@ -6,7 +6,7 @@ ghost use Rattle.kj_serve.specs.Replay.{ReplayEnds, IsReplyText, whole_in, answe
 
 use crate::output::{finish, write_numbered};
 use crate::status::{BAD_INPUT, DONE, NO_MEMORY, READ_FAILED, TOO_LONG};
-use conn_record::{RecordRefused, Replies, print_replies, read_records};
+use conn_record::{RecordRefused, Records, Replies, print_replies, read_records};
 use http_core::{Connection, Echo, Service, Target};
 use kj_base::{Bytes, INPUT_LIMIT, NoMemory};
 use kj_io::{Read, Sink, Source, Spawner, read_whole};
@@ -57,7 +57,7 @@ pub fn replay_command<R: Wait + Threads + Sync, I: Source, O: Sink, W: Spawner>(
             };
         }
     };
-    match replies_of(alloc, service, records.as_slice()) {
+    match replies_of(alloc, service, records) {
         Ok(text) => finish(output, text.as_slice(), DONE),
         Err(NoMemory) => NO_MEMORY,
     }
@@ -74,8 +74,8 @@ fn whole_in(refused: RecordRefused) -> Option<u32>
 }
 
 // The text of the replies to these connections.
-fn replies_of(alloc: Global, service: ServiceName, records: &[Bytes]) -> Result<Bytes, NoMemory>
-    ensures { IfOk result (IsReplyText (answers_of service) records.now) }
+fn replies_of(alloc: Global, service: ServiceName, records: Records) -> Result<Bytes, NoMemory>
+    ensures { IfOk result (IsReplyText (answers_of service) records) }
 {
     match service {
         ServiceName::Echo => serve_all(alloc, Echo, records),
@@ -83,16 +83,17 @@ fn replies_of(alloc: Global, service: ServiceName, records: &[Bytes]) -> Result<
     }
 }
 
-// The same, by one service for all of them.
+// The same, by one service for all of them. What a connection sent is dropped once it is served, so
+// that its memory serves the next reply.
 fn serve_all<S: Service + Drop>(
     alloc: Global,
     mut service: S,
-    records: &[Bytes],
+    records: Records,
 ) -> Result<Bytes, NoMemory>
-    ensures { IfSome S.told (λ f. IfOk result (IsReplyText f records.now)) }
+    ensures { IfSome S.told (λ f. IfOk result (IsReplyText f records)) }
 {
     let mut replies = Replies::new(alloc);
-    for record in records {
+    for record in records.into_vec() {
         let (written, back) = serve(alloc, service, record.as_slice())?;
         service = back;
         replies.push(written)?;

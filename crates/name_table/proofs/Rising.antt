@@ -8,7 +8,7 @@ use Rattle.name_table.specs.declared.entries.Entry.{Entry}
 use Rattle.name_table.specs.Entries.{IsRising, held_in, without_entry, with_entry, entered}
 use Rattle.name_table.proofs.Ranks.{AreAbove, above_lower, lower_is, other_is_above, same_is}
 
-swapped : (a b : ℕ) (c : Bool) → nat_eq a b ≡ c → nat_eq b a ≡ c
+pub swapped : (a b : ℕ) (c : Bool) → nat_eq a b ≡ c → nat_eq b a ≡ c
 swapped a b true h = grind (arith, nat_tests)
 swapped a b false h = grind (arith, nat_tests)
 
@@ -19,10 +19,10 @@ differ_case a b false t h = t
 pub differ : (a b : ℕ) → (a ≡ b → ⊥) → nat_eq a b ≡ false
 differ a b h = differ_case a b (nat_eq a b) refl h
 
-equal : (n : ℕ) → nat_eq n n ≡ true
+pub equal : (n : ℕ) → nat_eq n n ≡ true
 equal n = grind (arith, nat_tests)
 
-some_none : (a : Held) → ◌≡◌ {A = Option Held} (Some a) None → ⊥
+pub some_none : (a : Held) → ◌≡◌ {A = Option Held} (Some a) None → ⊥
 some_none a k = cc
 
 -- ---- a name goes
@@ -51,7 +51,7 @@ pub held_gone : (n : ℕ) (es : List Entry) → held_in n (without_entry n es) �
 held_gone n [] = refl
 held_gone n (e ∷ es) = gone_step n e es (nat_eq e.name.0 n) refl (held_gone n es)
 
-if_here : (b : Bool) (h : Held) (o p : Option Held) → o ≡ p → ◌≡◌ {A = Option Held} (cond b (Some h) o) (cond b (Some h) p)
+pub if_here : (b : Bool) (h : Held) (o p : Option Held) → o ≡ p → ◌≡◌ {A = Option Held} (cond b (Some h) o) (cond b (Some h) p)
 if_here true h o p e = refl
 if_here false h o p e = e
 
@@ -100,7 +100,7 @@ with_self_step : (x e : Entry) (es : List Entry) (b : Bool) → nat_lt x.name.0 
 with_self_step x e es true t other ih = rw (t, equal x.name.0) refl
 with_self_step x e es false t other ih = rw (t, other) ih
 
-held_with : (x : Entry) (es : List Entry) → held_in x.name.0 es ≡ None → held_in x.name.0 (with_entry x es) ≡ Some x.held
+pub held_with : (x : Entry) (es : List Entry) → held_in x.name.0 es ≡ None → held_in x.name.0 (with_entry x es) ≡ Some x.held
 held_with x [] none = rw (equal x.name.0) refl
 held_with x (e ∷ es) none =
     let p = apart x e es none in
@@ -110,7 +110,7 @@ with_other_step : (x e : Entry) (m : ℕ) (es : List Entry) (b : Bool) → nat_l
 with_other_step x e m es true t other ih = rw (t, other) refl
 with_other_step x e m es false t other ih = rw t (if_here (nat_eq e.name.0 m) e.held (held_in m (with_entry x es)) (held_in m es) ih)
 
-held_other : (x : Entry) (m : ℕ) (es : List Entry) → nat_eq x.name.0 m ≡ false → held_in m (with_entry x es) ≡ held_in m es
+pub held_other : (x : Entry) (m : ℕ) (es : List Entry) → nat_eq x.name.0 m ≡ false → held_in m (with_entry x es) ≡ held_in m es
 held_other x m [] other = rw other refl
 held_other x m (e ∷ es) other = with_other_step x e m es (nat_lt x.name.0 e.name.0) refl other (held_other x m es other)
 

@@ -88,8 +88,8 @@ pub(crate) fn take(entries: &mut Vec<Entry>, name: Name)
     }
 }
 
-// What a name holds, where a tree was replaced.
-fn held_after(held: Held, old: Link, new: Link) -> Held
+/// What a name holds, where a tree was replaced.
+pub fn held_after(held: Held, old: Link, new: Link) -> Held
     ensures { result ≡ held_replaced old.number.0 new held }
 {
     match held {

@@ -4,8 +4,8 @@ ghost use Rattle.name_table.specs.Table.{is_other};
 
 use kj_base::Link;
 
-// There is room, so the insertion takes no memory.
-pub(crate) fn push_front(trees: &mut Vec<Link>, tree: Link)
+/// A tree, before the others. There is room, so this takes no memory.
+pub fn push_front(trees: &mut Vec<Link>, tree: Link)
     requires { vec_len trees.old < vec_capacity trees.old }
     ensures items { trees.new.items ≡ tree ∷ trees.old.items }
     ensures capacity { vec_capacity trees.old ≤ vec_capacity trees.new }
@@ -13,8 +13,8 @@ pub(crate) fn push_front(trees: &mut Vec<Link>, tree: Link)
     let _ = trees.insert(0, tree);
 }
 
-// The same behind the others.
-pub(crate) fn push_back(trees: &mut Vec<Link>, tree: Link)
+/// The same behind the others.
+pub fn push_back(trees: &mut Vec<Link>, tree: Link)
     requires { vec_len trees.old < vec_capacity trees.old }
     ensures items { trees.new.items ≡ trees.old.items ++ tree ∷ [] }
     ensures capacity { vec_capacity trees.old ≤ vec_capacity trees.new }
@@ -22,7 +22,8 @@ pub(crate) fn push_back(trees: &mut Vec<Link>, tree: Link)
     let _ = trees.push(tree);
 }
 
-pub(crate) fn drop_tree(trees: &mut Vec<Link>, tree: Link)
+/// A tree goes.
+pub fn drop_tree(trees: &mut Vec<Link>, tree: Link)
     ensures items { trees.new.items ≡ filter (is_other tree.number.0) trees.old.items }
     ensures capacity { vec_capacity trees.new ≡ vec_capacity trees.old }
 {

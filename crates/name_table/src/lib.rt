@@ -2,10 +2,10 @@
 #![tactic(auto)]
 
 mod entries;
-mod left_over;
+pub mod left_over;
 mod table;
 
-pub use entries::Entry;
+pub use entries::{held_after, Entry};
 pub use table::NameTable;
 
 #[cfg(test)]

@@ -90,7 +90,7 @@ fn failing_calls(rt: HostRuntime) -> Result<(), Fail> {
         Vec::new(alloc),
     )?;
     let replies = replies.written.as_slice();
-    let cases: [(&[&str], &[u8], u8, &[u8]); 6] = [
+    let cases: [(&[&str], &[u8], u8, &[u8]); 7] = [
         (&["run"], TWO, 0, TWO_LOG),
         (&["run"], b"later x\n", 1, b"bad line 1\n"),
         (&["run"], b"wait 1 1\n", 9, b"not built line 1\n"),

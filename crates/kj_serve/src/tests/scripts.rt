@@ -172,7 +172,13 @@ fn too_long(rt: HostRuntime) -> Result<(), Fail> {
         remarks.extend(b"# a remark of sixty-four octets with its end, which means nothi\n")?;
     }
     remarks.push(b'#')?;
-    let ended = ran(&rt, alloc, remarks.as_slice(), Vec::new(alloc), Vec::new(alloc))?;
+    let ended = ran(
+        &rt,
+        alloc,
+        remarks.as_slice(),
+        Vec::new(alloc),
+        Vec::new(alloc),
+    )?;
     assert!(&rt; ended.is(6, b""));
     Ok(())
 }

@@ -19,11 +19,11 @@ returns-in-Err-clause-ends g c =
     let refused : IsRefusal octets c.in-Err.refused = subst (λ (x : List ℕ). IsRefusal x c.in-Err.refused) c.as_slice.ensures c.in-Err.ensures.refused in
     elim c.match-whole_in.branch [
       | in-Some v ↦
-          let e = v.refuse.ensures in
+          let e = v.write_numbered.ensures in
           let bad = bad_is octets c.in-Err.refused v.in-Some.whole refused (sym c.whole_in.ensures ∙ v.in-Some.is) in
-          let there : Outside = record { left = left; reads = reads; taken = g.O.Sink.taken v.refuse.new.output; writes = g.O.Sink.faults v.refuse.new.output } in
+          let there : Outside = record { left = left; reads = reads; taken = g.O.Sink.taken v.write_numbered.new.output; writes = g.O.Sink.faults v.write_numbered.new.output } in
           let same : there ≡ last = λ i. record { left = left; reads = reads; taken = g.O.Sink.taken (sym v.output-is i); writes = g.O.Sink.faults (sym v.output-is i) } in
-          let ends : ReplayEnds f v.refuse.result before there = bad_ends f v.refuse.result v.in-Some.whole before there octets (record { read = w.0; at_end = w.1; short = w.2 }) bad.0 bad.1 e.bad (λ four. (e.cause four, e.front four)) e.no_memory e.statuses in
-          subst (λ (n : ℕ). ReplayEnds f n before last) (sym v.result-is) (subst (λ (o : Outside). ReplayEnds f v.refuse.result before o) same ends)
+          let ends : ReplayEnds f v.write_numbered.result before there = bad_ends f v.write_numbered.result v.in-Some.whole before there octets (record { read = w.0; at_end = w.1; short = w.2 }) bad.0 bad.1 e.done (λ four. (e.cause four, e.front four)) e.no_memory e.statuses in
+          subst (λ (n : ℕ). ReplayEnds f n before last) (sym v.result-is) (subst (λ (o : Outside). ReplayEnds f v.write_numbered.result before o) same ends)
       | in-None v ↦ memory_ends f c.match-whole_in.result before last v.result-is (ap g.O.Sink.taken v.output-is)
     ]

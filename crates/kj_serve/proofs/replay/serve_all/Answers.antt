@@ -9,6 +9,5 @@ pub loop-record-preserved : goal.loop-record-preserved
 loop-record-preserved g c =
     let told = g.S.Service.told in
     let written = c.in_ok-written.written in
-    let served : IfSome told (λ f. IsReplies f c.record-item.result written) = subst (λ (x : List ℕ). IfSome told (λ f. IsReplies f x written)) c.as_slice.ensures c.in_ok-written.ensures in
-    replies_more told c.args.records.now c.loop-record.record-index c.record-item.result written c.loop-record.replies c.push.new.self
-    c.loop-record.invariant c.loop-record-test.true c.record-item.is served c.in_ok-push.ensures.ok
+    let served : IfSome told (λ f. IsReplies f c.in-Some.record written) = subst (λ (x : List ℕ). IfSome told (λ f. IsReplies f x written)) c.as_slice.ensures c.in_ok-written.ensures in
+    replies_more told c.loop-record.yielded c.in-Some.record written c.loop-record.replies c.push.new.self c.loop-record.invariant served c.in_ok-push.ensures.ok

@@ -1,8 +1,7 @@
 -- The replies to the connections so far.
-use Rattle.std.proofs.Common.{take}
 use Rattle.std.specs.Prelude.{IfSome}
 use Rattle.kj_serve.specs.Replay.{AreReplies}
 use Rattle.kj_serve.proofs.replay.serve_all.Given as goal
 
 abbrev pub invariant-loop-record : goal.invariant-loop-record
-invariant-loop-record g l = IfSome g.S.Service.told (λ f. AreReplies f (take l.record-index l.records) l.replies)
+invariant-loop-record g l = IfSome g.S.Service.told (λ f. AreReplies f l.yielded l.replies)

@@ -4,7 +4,7 @@ use Rattle.kj_model.specs.World.{new_world}
 use Rattle.kj_ownership.proofs.Calls.{new_kept}
 use Rattle.promise_graph.specs.Standing.{StandsFor}
 use Rattle.name_table.specs.Table.{Stands}
-use Rattle.loop_core.proofs.over.LoopOver+Graph+St+Q+NameTable.new.Goals as goal
+use Rattle.loop_core.proofs.over.LoopOver+Graph+St+Q+NameTree.new.Goals as goal
 
 pub returns : goal.returns
 returns g c = record {
