@@ -1,4 +1,4 @@
-//! What lies behind the lock of an executor.
+//! A board with its history, and what belongs to each request.
 ghost use Rattle.std.specs.Prelude.{◌≡◌, ◌+◌, ◌<◌, ◌≤◌, ◌≢◌, ℕ, [], ◌∷◌, ◌++◌, length, true, false, List, cond, slice_get, IfOk, IfErr, IfSome, IfNone};
 ghost use Rattle.std.specs.Bool.{OnTrue, OnFalse};
 ghost use Rattle.executor_core.specs.declared.call.Call.TheVariants.{Submit, Next, Finish, Cancel, Collect, Close};
@@ -6,8 +6,6 @@ ghost use Rattle.executor_core.specs.declared.call.Reply.TheVariants.{Done};
 ghost use Rattle.executor_core.specs.declared.call.Reply.TheVariants as reply;
 ghost use Rattle.executor_core.specs.declared.entry.Entry.{Entry};
 ghost use Rattle.executor_core.specs.Acts.{act, refusal_reply};
-ghost use Rattle.executor_core.specs.Ends.{end_of};
-ghost use Rattle.executor_core.proofs.Ends.{end_stays, end_within, end_fresh};
 ghost use Rattle.executor_core.specs.Histories.{entry, board_of, of_caller, times, is_submit, waits, Outstanding, Unfinished, AllFinished, Legal};
 ghost use Rattle.xthread.specs.Stock.{Book, book, Grown, Sound};
 ghost use Rattle.xthread.specs.Answers.{request, board, Unchanged, NextTells, CancelTells, CollectTells};
@@ -17,16 +15,15 @@ use crate::executor::MAX_REQUESTS;
 use crate::place::Place;
 use crate::stock::{take_back, take_payload};
 use crate::ticket::Ticket;
-use count_lock::Kept;
-use executor_core::{Board, Cancelling, Chosen, Entries, Entry, Log, NotTaken};
+use executor_core::{Board, Cancelling, Chosen, Entries, Log, NotTaken};
 use kj_base::{NoMemory, Outcome, Sent, StepId, Words};
 use std::alloc::Global;
 use std::marker::Model;
 
-/// A board, its history, and what belongs to each request. Contracts see the limit and the history.
+// Contracts see the limit and the history.
 #[derive(Drop)]
-pub struct Guarded<P: Sent, R: Send> {
-    board: Board,
+pub(crate) struct Guarded<P: Sent, R: Send> {
+    pub(crate) board: Board,
     log: Log,
     places: Vec<Place<P, R>>,
 }
@@ -40,25 +37,6 @@ impl<P: Sent, R: Send> Model for Guarded<P, R> {
     ghost view = { λ g. book g.board.limit g.log.entries };
 
     ghost invariant = { λ g. Whole P.fits g.board g.log.entries g.log.room g.places.items (vec_capacity g.places) };
-}
-
-impl<P: Sent, R: Send> Kept for Guarded<P, R> {
-    type Entry = Entry;
-
-    ghost entries = { λ g. g.entries };
-
-    ghost by = { λ e. e.caller };
-
-    ghost constant = { λ g. g.limit };
-
-    // The place of the finish, the withdrawal or the closing that ends the request.
-    ghost fin = { end_of };
-
-    ghost fin_laws = { record { stays = end_stays; within = end_within; fresh = end_fresh } };
-
-    fn constant(&self) -> u64 {
-        self.board.limit() as u64
-    }
 }
 
 impl<P: Sent + Drop, R: Send + Drop> Guarded<P, R> {
