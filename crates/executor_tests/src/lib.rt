@@ -6,7 +6,6 @@ mod item;
 #[cfg(test)]
 mod looks;
 mod patient;
-mod rest;
 #[cfg(test)]
 mod rows;
 mod stopper;

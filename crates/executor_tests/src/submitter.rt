@@ -4,10 +4,10 @@ ghost use Rattle.count_lock.specs.Passes.{IsSamePass};
 ghost use Rattle.executor_tests.specs.Callers.{IsIdle, HasOne};
 
 use crate::item::Item;
-use crate::rest::rest;
 use crate::tally::{Tally, count};
 use kj_base::{StepId, Words};
 use std::sync::Wait;
+use std::thread;
 use xthread::{Cancelled, Collected, Executor, ExecutorPass, Ticket};
 
 /// The list of one word.
@@ -85,7 +85,6 @@ pub fn settle<W: Wait>(
     ensures idle { IsIdle executor.now.lock pass.new }
 {
     let mut ticket = ticket;
-    let mut waits: u32 = 0;
     for _ in rt.forever() {
         match executor.collect(rt, pass, ticket) {
             Collected::Ended(_, _) => {
@@ -94,7 +93,7 @@ pub fn settle<W: Wait>(
             }
             Collected::NotYet(back) => ticket = back,
         }
-        rest(&mut waits);
+        thread::yield_now();
     }
     unreachable!()
 }

@@ -7,10 +7,10 @@ ghost use Rattle.executor_tests.specs.Turns.{IsTurn};
 ghost use Rattle.executor_tests.specs.Callers.{IsIdleTarget};
 
 use crate::item::Item;
-use crate::rest::rest;
 use kj_base::Outcome;
 use std::sync::Wait;
 use std::sync::atomic::{AtomicU32, Ordering};
+use std::thread;
 use xthread::{Executor, ExecutorPass, Next};
 
 /// Starts a request and finishes it with the words that it came with. False where there was nothing to do.
@@ -48,16 +48,13 @@ pub fn serve<W: Wait>(
     ensures closed { (board_seen pass.new).closed ≡ true }
     ensures settled { Settled (constant pass.new) (seen pass.new) }
 {
-    let mut waits: u32 = 0;
     for _ in rt.forever() {
         let last = done.load(Ordering::SeqCst) >= callers;
-        if serve_once(rt, executor, pass) {
-            waits = 0;
-        } else {
+        if !serve_once(rt, executor, pass) {
             if last {
                 break;
             }
-            rest(&mut waits);
+            thread::yield_now();
         }
     }
     executor.close(rt, pass);

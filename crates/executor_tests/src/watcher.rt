@@ -5,11 +5,11 @@ ghost use Rattle.xthread.specs.Told.{EndKnown};
 ghost use Rattle.executor_tests.specs.Callers.{IsIdle, HasOne};
 
 use crate::item::Item;
-use crate::rest::rest;
 use crate::submitter::one_word;
 use crate::tally::{Tally, count};
 use kj_base::StepId;
 use std::sync::Wait;
+use std::thread;
 use xthread::{Collected, Executor, ExecutorPass, Ticket};
 
 /// One look whether the one request that is outstanding has ended. It takes no turn.
@@ -38,12 +38,11 @@ pub fn watch<W: Wait>(
     ensures one { HasOne executor.now.lock pass.new ticket.now }
     ensures known { EndKnown pass.new ticket.now.request }
 {
-    let mut waits: u32 = 0;
     for _ in rt.forever() {
         if look(executor, pass, ticket) {
             return;
         }
-        rest(&mut waits);
+        thread::yield_now();
     }
     unreachable!()
 }

@@ -5,7 +5,7 @@ ghost use Rattle.xthread.specs.Told.{IsReady};
 ghost use Rattle.executor_tests.specs.Callers.{IsIdle, HasOne, IsIdleTarget};
 
 use anyhow::{Result, bail, ensure};
-use executor_tests::{Item, Tally, ask, ask_and_watch, one_word, serve, settle_by_sight};
+use executor_tests::{Item, Tally, ask, one_word, serve, settle};
 use kj_base::StepId;
 use std::alloc::Global;
 use std::rt::Clock;
@@ -96,25 +96,6 @@ type BenchPass = ExecutorPass<Item, u64>;
 // A submitter's pass, and what it counted.
 type Lane = (BenchPass, Tally);
 
-// The request is withdrawn at once, or its end is looked for without the lock.
-fn submit_one<W: Wait>(
-    rt: &W,
-    executor: &BenchExecutor,
-    pass: &mut BenchPass,
-    way: Way,
-    word: u64,
-    tally: &mut Tally,
-)
-    requires { IsIdle executor.now.lock pass.old }
-    ensures { IsIdle executor.now.lock pass.new }
-{
-    if way == Way::Submission {
-        ask(rt, executor, pass, word, true, tally)
-    } else {
-        ask_and_watch(rt, executor, pass, word, tally)
-    }
-}
-
 // All that it submits is withdrawn or collected.
 fn submit_many<W: Wait>(
     rt: &W,
@@ -129,7 +110,8 @@ fn submit_many<W: Wait>(
 {
     let mut tally = Tally::new();
     for i in 0..count {
-        submit_one(rt, executor, &mut pass, way, i as u64, &mut tally);
+        let cancel = way == Way::Submission;
+        ask(rt, executor, &mut pass, i as u64, cancel, &mut tally);
     }
     done.fetch_add(1, Ordering::SeqCst);
     (pass, tally)
@@ -306,7 +288,7 @@ fn ask_each<W: Wait>(
     match begin(rt, executor, &mut first, word) {
         Some(ticket) => {
             ask_each(rt, executor, passes, word, tally);
-            settle_by_sight(rt, executor, &mut first, ticket, tally);
+            settle(rt, executor, &mut first, ticket, tally);
             let _kept = passes.push(first);
         }
         None => {
