@@ -8,7 +8,7 @@ mod script;
 mod sources;
 mod steps;
 
-pub use action::{Action, Commands};
+pub use action::{Action, Commands, MAX_COMMANDS};
 pub use command::Command;
 pub use refused::Refused;
 pub use script::{Line, NumberedLine};

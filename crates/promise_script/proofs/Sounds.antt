@@ -14,7 +14,7 @@ use Rattle.promise_commands.specs.Script.{Body}
 use Rattle.promise_commands.specs.Script.{Script}
 use Rattle.promise_script.specs.declared.meaning.Meaning.{Meaning}
 use Rattle.promise_script.specs.declared.meaning.Meaning.TheVariants.{Nothing, Limits as LimitsLine, Do, Turn, Run, Step, Close}
-use Rattle.promise_script.specs.declared.meaning.TheConstants.{MAX_COMMANDS}
+use Rattle.promise_commands.specs.declared.action.TheConstants.{MAX_COMMANDS}
 use Rattle.promise_script.specs.ScriptText.{Means}
 use Rattle.promise_script.specs.Decode.{and_then, text_read}
 use Rattle.promise_script.specs.Assembly.{Part, stood, is_inside, refused_at, went_on, ended, before_lines, script_read}

@@ -8,7 +8,7 @@ use Rattle.promise_commands.specs.declared.script.NumberedLine.{NumberedLine}
 use Rattle.promise_commands.specs.Script.{passing_action}
 use Rattle.promise_script.specs.declared.bodies.Inside.{Inside}
 use Rattle.promise_script.specs.declared.bodies.Inside.TheVariants.{Nothing as NothingInside, Do as DoInside, Close as CloseInside}
-use Rattle.promise_script.specs.declared.meaning.TheConstants.{MAX_COMMANDS}
+use Rattle.promise_commands.specs.declared.action.TheConstants.{MAX_COMMANDS}
 use Rattle.promise_script.specs.declared.meaning.Meaning.{Meaning}
 use Rattle.promise_script.specs.declared.meaning.Meaning.TheVariants.{Nothing, Limits as LimitsLine, Do, Turn, Run, Step, Close}
 use Rattle.promise_script.specs.Decode.{text_read}

@@ -10,7 +10,8 @@ use Rattle.promise_commands.specs.declared.script.Line.TheVariants.{Do as DoLine
 use Rattle.promise_commands.specs.declared.script.NumberedLine.{NumberedLine}
 use Rattle.promise_commands.specs.Script.{Body}
 use Rattle.promise_commands.specs.Script.{Script}
-use Rattle.promise_script.specs.declared.meaning.TheConstants.{MAX_COMMANDS, MAX_TURNS}
+use Rattle.promise_commands.specs.declared.action.TheConstants.{MAX_COMMANDS}
+use Rattle.promise_script.specs.declared.meaning.TheConstants.{MAX_TURNS}
 use Rattle.promise_script.specs.declared.meaning.Meaning.{Meaning}
 use Rattle.promise_script.specs.declared.meaning.Meaning.TheVariants.{Nothing, Limits as LimitsLine, Do, Turn, Run, Step, Close}
 use Rattle.promise_script.specs.declared.reader.ReadRefused.{ReadRefused}

@@ -2,9 +2,10 @@
 ghost use Rattle.std.specs.Prelude.{◌≡◌, IfOk};
 ghost use Rattle.promise_script.specs.Kept.{Answers, limited, lined, commanded, begun, closed, stood};
 
-use crate::meaning::{MAX_COMMANDS, Meaning};
+use crate::meaning::Meaning;
 use crate::spots::{Spot, Spots};
 use kj_base::{Limits, NoMemory, StepId};
+use promise_commands::MAX_COMMANDS;
 
 /// The body whose end wasn't read yet, with how many commands it has so far.
 #[derive(Drop)]

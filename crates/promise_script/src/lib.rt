@@ -23,6 +23,6 @@ mod verbs;
 pub use laws::{one_line, one_script, some_script};
 pub use left::LinesLeft;
 pub use lines::read_line;
-pub use meaning::{MAX_COMMANDS, MAX_TURNS, MAX_WORDS, Meaning, SLOTS_STEP};
+pub use meaning::{MAX_TURNS, MAX_WORDS, Meaning, SLOTS_STEP};
 pub use reader::{ReadRefused, read};
 pub use script::Script;

@@ -1,7 +1,7 @@
 //! Whole scripts and what they are read as, worked by hand from the grammar.
-use crate::{MAX_COMMANDS, ReadRefused, Script, one_script, read, some_script};
+use crate::{ReadRefused, Script, one_script, read, some_script};
 use kj_base::{Ending, INPUT_LIMIT, Limits, NoMemory, StepId};
-use promise_commands::{Command, Line, NumberedLine};
+use promise_commands::{Command, Line, MAX_COMMANDS, NumberedLine};
 use std::alloc::{AllocError, Global};
 use std::test::Fail;
 
