@@ -1,9 +1,10 @@
 //! Names that come and go, and promises that have another tree, beside the names of roots.
 ghost use Rattle.std.specs.Prelude.{◌≡◌, ◌+◌, ◌<◌, ◌≤◌, ℕ, None, Some, IsSome, true, vec_len};
-ghost use Rattle.promise_names.specs.Held.{AreApart};
+ghost use Rattle.promise_names.specs.Held.{AreApart, root_of};
 ghost use Rattle.name_tree.specs.Cuts.{name_cut, root_cut};
 ghost use Rattle.name_tree.specs.Maps.{IsMap, total_of};
 ghost use Rattle.name_tree.specs.Trees.{value_at, count_of, IsSetAt};
+ghost use Rattle.name_tree.specs.Roots.{HasNoName};
 ghost use Rattle.name_tree.specs.Listed.{root_in, Knows, IsRenamed};
 
 use crate::held::replace_all;
@@ -35,6 +36,7 @@ pub(crate) fn put(
     ensures roots_cut { roots.new.cut ≡ roots.old.cut }
     ensures roots_total { total_of roots.new ≡ total_of roots.old }
     ensures known { result ≡ true → Knows names.new.tree roots.new.tree }
+    ensures stays { is_known ≡ true → HasNoName (root_of (Some held)) roots.old.tree → 0 < vec_len roots.old.spare → result ≡ true }
 {
     forget(roots, name, names.get(name.0 as u64));
     names.put(name.0 as u64, held);
@@ -85,6 +87,7 @@ fn give(
     ensures roots_cut { roots.new.cut ≡ roots.old.cut }
     ensures roots_total { total_of roots.new ≡ total_of roots.old }
     ensures known { result ≡ true → Knows names.old.tree roots.old.tree → Knows names.new.tree roots.new.tree }
+    ensures stays { HasNoName (Some new.number.0) roots.old.tree → 0 < vec_len roots.old.spare → result ≡ true }
 {
     forget(roots, name, Some(Held::Promise(old)));
     names.replace(name.0 as u64, Held::Promise(new));
@@ -115,6 +118,7 @@ pub(crate) fn rename(
     ensures roots_cut { roots.new.cut ≡ roots.old.cut }
     ensures roots_total { total_of roots.new ≡ total_of roots.old }
     ensures known { result ≡ true → Knows names.new.tree roots.new.tree }
+    ensures stays { is_known ≡ true → HasNoName (Some new.number.0) roots.old.tree → 0 < vec_len roots.old.spare → result ≡ true }
 {
     match name_of(names, roots, old) {
         Some(name) => give(names, roots, name, old, new) && is_known,

@@ -1,5 +1,5 @@
 //! The names of the roots that names promise.
-ghost use Rattle.std.specs.Prelude.{◌≡◌, ◌<◌, ℕ, None, Some, true, IfSome, vec_len};
+ghost use Rattle.std.specs.Prelude.{◌≡◌, ◌<◌, ◌≤◌, ℕ, None, Some, true, IfSome, vec_len};
 ghost use Rattle.promise_names.specs.Held.{root_of};
 ghost use Rattle.name_tree.specs.Cuts.{root_cut};
 ghost use Rattle.name_tree.specs.Maps.{IsMap, total_of};
@@ -18,6 +18,8 @@ pub(crate) fn forget(roots: &mut KeyMap<Name>, name: Name, held: Option<Held>)
     ensures cut { roots.new.cut ≡ roots.old.cut }
     ensures total { total_of roots.new ≡ total_of roots.old }
     ensures others { KeepsOthers name.0 roots.old.tree roots.new.tree }
+    ensures none { (root : ℕ) → value_at root roots.old.tree ≡ None → value_at root roots.new.tree ≡ None }
+    ensures room { vec_len roots.old.spare ≤ vec_len roots.new.spare }
     ensures gone { (root : ℕ) → root_of held ≡ Some root → value_at root roots.new.tree ≡ Some name → ⊥ }
 {
     if let Some(Held::Promise(root)) = held {
