@@ -24,26 +24,17 @@ filled() {
 
 # kilobytes at the peak, and seconds
 peak() {
-  python3 - "$program" "$work/script" "$work/log" <<'END'
-import os, resource, subprocess, sys, time
-program, script, log = sys.argv[1:]
-begun = time.time()
-with open(script, 'rb') as octets, open(log, 'wb') as text:
-    status = subprocess.call([program, 'run'], stdin=octets, stdout=text)
-took = time.time() - begun
-if status != 0:
-    sys.exit('status %d' % status)
-print(resource.getrusage(resource.RUSAGE_CHILDREN).ru_maxrss, '%.2f' % took)
-END
+  /usr/bin/time -f '%M %e' -o "$work/figures" "$program" run < "$work/script" > "$work/log"
+  cat "$work/figures"
 }
 
 row() {
   local figures
   figures=$(peak)
-  awk -v name="$1" -v octets="$(wc -c < "$work/script")" -v log="$(wc -c < "$work/log")" -v figures="$figures" -v base="$base" \
+  awk -v name="$1" -v octets="$(wc -c < "$work/script")" -v text="$(wc -c < "$work/log")" -v figures="$figures" -v base="$base" \
     'BEGIN {
       split(figures, f, " ")
-      printf "%-24s %10d %10d %10d %8.2f %10.2f\n", name, octets, log, f[1], f[2], (f[1] - base - log / 1024) * 1024 / octets
+      printf "%-24s %10d %10d %10d %8.2f %10.2f\n", name, octets, text, f[1], f[2], (f[1] - base - text / 1024) * 1024 / octets
     }'
 }
 
