@@ -7,19 +7,24 @@ mod bodies;
 mod executor;
 mod heads;
 mod http;
+mod loop_steps;
+mod loop_words;
+mod loops;
 
 use anyhow::{Result, bail, ensure};
 use executor::{RACES, Race, race_named, run_race};
 use http::{SMALL_BODY, WHOLE_BODY, WORKS, Work};
 use http_heads::Head;
+use loop_words::{ROUNDS, TIMES, rounds_named, run_rounds};
+use loops::{Round, slots_each, units_of};
 use std::env;
-use std::rt::{Clock, Env};
+use std::rt::{Clock, CpuClock, Env};
 use std::sync::Wait;
 use std::thread::{Threads, available_parallelism};
 use std::time::{Duration, Instant};
 
 // One round of everything.
-fn all<R: AllocGlobal + Clock + Wait + Threads + Sync>(rt: &R) -> Result<()> {
+fn all<R: AllocGlobal + Clock + CpuClock + Wait + Threads + Sync>(rt: &R) -> Result<()> {
     let mut head = Head::new(rt.alloc());
     for (name, work) in WORKS.iter() {
         let text = http::text_of(rt.alloc(), *work, SMALL_BODY)?;
@@ -28,6 +33,9 @@ fn all<R: AllocGlobal + Clock + Wait + Threads + Sync>(rt: &R) -> Result<()> {
     }
     for (_, race) in RACES.iter() {
         let _time = run_race(rt, rt.alloc(), *race, 1)?;
+    }
+    for (_, round) in ROUNDS.iter() {
+        let _nanos = run_rounds(rt, rt.alloc(), *round, 2, 2)?;
     }
     Ok(())
 }
@@ -87,7 +95,26 @@ fn measure_race<R: AllocGlobal + Clock + Print + Wait + Threads + Sync>(
     Ok(())
 }
 
-fn run<R: AllocGlobal + Clock + Env + Print + Wait + Threads + Sync>(rt: &R) -> Result<()> {
+// So many rounds on a loop, the best of some times, with its figures.
+fn measure_rounds<R: AllocGlobal + CpuClock + Print>(
+    rt: &R,
+    word: &str,
+    round: Round,
+    count: u32,
+) -> Result<()> {
+    let nanos = run_rounds(rt, rt.alloc(), round, count, TIMES)?;
+    let units = units_of(round, count);
+    let each = nanos / units.max(1);
+    let slots = slots_each(round);
+    println!(rt;
+        "{word}: {units} units in {nanos} nanoseconds, {each} nanoseconds a unit, of {slots} slots"
+    )?;
+    Ok(())
+}
+
+fn run<R: AllocGlobal + Clock + CpuClock + Env + Print + Wait + Threads + Sync>(
+    rt: &R,
+) -> Result<()> {
     let mut words = env::args(rt)?;
     let _program = words.next();
     let Some(word) = words.next() else {
@@ -98,6 +125,9 @@ fn run<R: AllocGlobal + Clock + Env + Print + Wait + Threads + Sync>(rt: &R) -> 
     };
     if let Some(race) = race_named(word.as_str()) {
         return measure_race(rt, word.as_str(), race, count.as_str().parse::<u32>()?);
+    }
+    if let Some(round) = rounds_named(word.as_str()) {
+        return measure_rounds(rt, word.as_str(), round, count.as_str().parse::<u32>()?);
     }
     let Some(work) = http::named(word.as_str()) else {
         bail!("no such word: {word}");
