@@ -6,6 +6,7 @@ use std::sync::atomic::{AtomicU64, Ordering};
 #[derive(Drop)]
 pub(crate) struct Bell {
     rung: AtomicU64,
+    // How many have lain down since, less how often it rang for one: no fewer than sleep.
     sleepers: AtomicU64,
     _apart: [u64; 6],
 }
@@ -24,9 +25,18 @@ impl Bell {
         self.rung.load(Ordering::SeqCst)
     }
 
-    // Ends one sleep, where there is one.
+    // Ends one sleep, where there is one. Each that lay down is rung for once.
     pub(crate) fn ring_for_one(&self) {
-        if self.sleepers.load(Ordering::SeqCst) != 0 {
+        let sleepers = self.sleepers.load(Ordering::SeqCst);
+        if sleepers == 0 {
+            return;
+        }
+        let rest = sleepers - 1;
+        if self
+            .sleepers
+            .compare_exchange(sleepers, rest, Ordering::SeqCst, Ordering::SeqCst)
+            .is_ok()
+        {
             self.rung.fetch_add(1, Ordering::SeqCst);
             self.rung.wake_one();
         }

@@ -21,8 +21,14 @@ use std::hint::spin_loop;
 use std::sync::Wait;
 use std::thread::yield_now;
 
-// How often a pass looks before it gives its processor away or sleeps.
+// How often the holder of a ticket looks before it sleeps.
 const SPIN: u32 = 128;
+// How often a pass looks at the gate, and its longest pause between two looks.
+const LOOKS: u32 = 12;
+
+const SHORTEST: u32 = 16;
+
+const LONGEST: u32 = 4096;
 // How often it gives its processor away before it sleeps.
 const YIELDS: u32 = 4;
 
@@ -171,26 +177,44 @@ impl<T: Kept> CountLock<T> {
         self.table.shared.peek(0) == self.table.shared.peek(1)
     }
 
-    // Waits without a ticket, so that nobody waits for a sleeper.
-    fn wait_at_gate<R: Wait>(&self, rt: &R) {
-        for _ in 0..SPIN {
+    // Looks whether the lock is free, with longer and longer pauses.
+    fn comes_free(&self) -> bool {
+        let mut pause: u32 = SHORTEST;
+        for _ in 0..LOOKS {
             if self.is_free() {
-                return;
+                return true;
             }
-            spin_loop();
+            for _ in 0..pause {
+                spin_loop();
+            }
+            if pause < LONGEST {
+                pause *= 2;
+            }
         }
         for _ in 0..YIELDS {
             if self.is_free() {
-                return;
+                return true;
             }
             yield_now();
         }
-        self.bells.gate.lie_down();
-        let rung = self.bells.gate.rung();
-        if !self.is_free() {
+        false
+    }
+
+    // Waits without a ticket, so that nobody waits for a sleeper. A release rings for each that lay down at most once, so one that
+    // finds the lock taken again lies down anew.
+    fn wait_at_gate<R: Wait>(&self, rt: &R) {
+        for _ in rt.forever() {
+            if self.comes_free() {
+                return;
+            }
+            let rung = self.bells.gate.rung();
+            self.bells.gate.lie_down();
+            if self.is_free() {
+                return;
+            }
             self.bells.gate.sleep(rt, rung);
         }
-        self.bells.gate.get_up();
+        unreachable!()
     }
 
     // Wakes the holder of the next ticket, or else one who has none.

@@ -10,3 +10,4 @@ pub mod Chains
 pub mod Asking
 pub mod Links
 pub mod Ends
+pub mod Lines

@@ -3,3 +3,4 @@ pub mod Histories
 pub mod Chains
 pub mod Asks
 pub mod Ends
+pub mod Lines

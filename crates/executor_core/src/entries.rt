@@ -1,13 +1,16 @@
 //! A history.
-ghost use Rattle.std.specs.Prelude.{◌≡◌};
+ghost use Rattle.std.specs.Prelude.{◌≡◌, ◌<◌, ◌≤◌, [], length, slice_get, vec_capacity, Some, IfOk};
 
 use crate::entry::Entry;
+use crate::log::Log;
+use kj_base::NoMemory;
+use std::alloc::Global;
 use std::marker::Model;
 
 /// Entries in their order. Contracts see the list.
 #[derive(Drop)]
 pub struct Entries {
-    items: Vec<Entry>,
+    log: Log,
 }
 
 impl Model for Entries {
@@ -16,30 +19,51 @@ impl Model for Entries {
 
     ghost Value = { List Entry };
 
-    ghost view = { λ e. e.items.items };
+    ghost view = { λ e. e.log.entries };
 
     ghost invariant = { λ _. Unit {0} };
 }
 
 impl Entries {
     /// Takes no memory.
-    pub fn from_vec(items: Vec<Entry>) -> Entries
-        ensures { result ≡ items.items }
+    pub fn from_log(log: Log) -> Entries
+        ensures { result ≡ log.entries }
     {
-        Entries { items }
+        Entries { log }
     }
 
-    /// Takes no memory.
-    pub fn into_vec(self) -> Vec<Entry>
-        ensures { result.items ≡ self }
+    /// How many there are.
+    pub fn len(&self) -> usize
+        ensures { result ≡ length self.now }
     {
-        self.items
+        self.log.len()
+    }
+
+    /// The entry at a place. Takes no memory.
+    pub fn at(&self, place: usize) -> Entry
+        requires { place < length self.now }
+        ensures { slice_get self.now place ≡ Some result }
+    {
+        self.log.at(place)
     }
 
     /// The entries in order.
-    pub fn as_slice(&self) -> &[Entry]
-        ensures { result.now ≡ self.now }
+    pub fn to_vec(&self, alloc: Global) -> Result<Vec<Entry>, NoMemory>
+        ensures { IfOk result (λ v. v.items ≡ self.now) }
     {
-        self.items.as_slice()
+        let mut items = Vec::with_capacity(alloc, self.log.len())?;
+        copy_all(&self.log, &mut items);
+        Ok(items)
+    }
+}
+
+// There is room for all.
+fn copy_all(log: &Log, items: &mut Vec<Entry>)
+    requires empty { items.old.items ≡ [] }
+    requires room { length log.now.entries ≤ vec_capacity items.old }
+    ensures { items.new.items ≡ log.now.entries }
+{
+    for place in 0..log.len() {
+        items.push_reserved(log.at(place));
     }
 }

@@ -11,6 +11,8 @@ mod chain;
 mod entries;
 mod entry;
 mod laws;
+mod line;
+mod log;
 mod request;
 mod search;
 #[cfg(test)]
@@ -26,4 +28,5 @@ pub use laws::{
     entry_opens_or_ends, own_entries_tell, requests_are_submissions, requests_start_and_end_once,
     target_starts_and_finishes,
 };
+pub use log::{Log, MAX_ENTRIES};
 pub use request::{Request, State};

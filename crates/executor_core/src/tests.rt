@@ -1,9 +1,9 @@
 //! Every row of the table of calls, and ends that are asked in an order that does not rise, on boards of five requests.
-ghost use Rattle.std.specs.Prelude.{◌≡◌, ◌<◌, ◌≤◌, ℕ, length, true, false, slice_get, Some, vec_capacity};
+ghost use Rattle.std.specs.Prelude.{◌≡◌, ◌<◌, ◌≤◌, ℕ, length, [], true, false, slice_get, Some, vec_capacity};
 ghost use Rattle.executor_core.specs.Acts.{MayAct, IsOwn, IsRunning, NoneRuns, running_state, spent_state};
 
 use crate::board::Board;
-use crate::{Call, Entries, Entry, Reply, Request, State};
+use crate::{Call, Entries, Log, Reply, Request, State};
 use kj_base::{Exception, Kind, Outcome, StepId, Words};
 use std::test::Fail;
 
@@ -261,16 +261,102 @@ fn the_least_that_is_asked_is_told_first(rt: HostRuntime) -> Result<(), Fail> {
     Ok(())
 }
 
+fn is_same_call(a: &Call, b: &Call) -> bool {
+    match (a, b) {
+        (Call::Submit { step: s, words: v }, Call::Submit { step: t, words: w }) => {
+            *s == *t && v.as_slice() == w.as_slice()
+        }
+        (Call::Next, Call::Next) => true,
+        (
+            Call::Finish {
+                request: a,
+                outcome: v,
+            },
+            Call::Finish {
+                request: b,
+                outcome: w,
+            },
+        ) => *a == *b && is_same_outcome(v, w),
+        (Call::Cancel { request: a }, Call::Cancel { request: b }) => *a == *b,
+        (Call::Collect { request: a }, Call::Collect { request: b }) => *a == *b,
+        (Call::Close, Call::Close) => true,
+        _ => false,
+    }
+}
+
+fn finished(request: u32, outcome: Outcome) -> Call {
+    Call::Finish { request, outcome }
+}
+
+fn value(word: u64) -> Outcome {
+    let mut words = Words::new();
+    words.push(word);
+    words.push(2);
+    Outcome::Value(words)
+}
+
+// An entry of each kind, with words and without. There is room for ten.
+fn note_all(log: &mut Log)
+    requires { (log.old.entries ≡ []) × (log.old.room ≡ 10) }
+    ensures { length log.new.entries ≡ 10 }
+{
+    log.submit(1, 0, StepId(7), &word(5));
+    log.submit(2, 1, StepId(8), &Words::new());
+    log.start(0, StepId(7), &word(5));
+    log.ask(1, 0);
+    log.stop(0);
+    log.finish(0, &value(6));
+    log.finish(1, &failed(4));
+    log.collect(1, 0, &value(6));
+    log.withdraw(2, 1);
+    log.close();
+}
+
 #[test]
-fn a_list_of_entries_is_a_list(rt: HostRuntime) -> Result<(), Fail> {
-    let mut items = Vec::new(rt.alloc());
-    items.push(Entry {
-        caller: 1,
-        call: submit(5),
-        reply: Reply::Ticket(0),
-    })?;
-    let entries = Entries::from_vec(items);
-    assert!(rt; entries.as_slice().len() == 1);
-    assert!(rt; entries.into_vec().len() == 1);
+fn a_log_gives_its_entries_back(rt: HostRuntime) -> Result<(), Fail> {
+    let mut log = Log::new(rt.alloc(), 10)?;
+    note_all(&mut log);
+    assert!(rt; log.len() == 10);
+    let entries = Entries::from_log(log);
+    assert!(rt; entries.len() == 10);
+    let want = Vec::from_array(
+        rt.alloc(),
+        [
+            (1, submit(5), Reply::Ticket(0)),
+            (
+                2,
+                Call::Submit {
+                    step: StepId(8),
+                    words: Words::new(),
+                },
+                Reply::Ticket(1),
+            ),
+            (0, Call::Next, start(0, 5)),
+            (1, Call::Cancel { request: 0 }, Reply::Asked),
+            (0, Call::Next, Reply::Stop(0)),
+            (0, finished(0, value(6)), Reply::Done),
+            (0, finished(1, failed(4)), Reply::Done),
+            (1, Call::Collect { request: 0 }, Reply::Ended(value(6))),
+            (2, Call::Cancel { request: 1 }, Reply::Withdrawn),
+            (0, Call::Close, Reply::Done),
+        ],
+    )?;
+    let found = entries.to_vec(rt.alloc())?;
+    assert!(rt; found.len() == want.len());
+    for (entry, (caller, call, reply)) in found.iter().zip(want.iter()) {
+        assert!(rt; entry.caller == *caller);
+        assert!(rt; is_same_call(&entry.call, call));
+        assert!(rt; is_same(&entry.reply, reply));
+    }
+    Ok(())
+}
+
+#[test]
+fn an_entry_is_read_at_its_place(rt: HostRuntime) -> Result<(), Fail> {
+    let mut log = Log::new(rt.alloc(), 10)?;
+    note_all(&mut log);
+    let entries = Entries::from_log(log);
+    assert!(rt; is_same_call(&entries.at(6).call, &finished(1, failed(4))));
+    assert!(rt; is_same(&entries.at(7).reply, &Reply::Ended(value(6))));
     Ok(())
 }

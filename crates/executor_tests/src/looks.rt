@@ -147,6 +147,6 @@ fn an_end_is_seen_only_after_its_finish(rt: HostRuntime) -> Result<(), Fail> {
             })
     );
     assert!(rt; tally.taken == ROUNDS && tally.ended == ROUNDS);
-    assert!(rt; entries.as_slice().len() == 4 * ROUNDS as usize);
+    assert!(rt; entries.len() == 4 * ROUNDS as usize);
     Ok(())
 }

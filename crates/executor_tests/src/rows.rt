@@ -197,7 +197,7 @@ fn what_does_not_start_comes_back(rt: HostRuntime) -> Result<(), Fail> {
         Cancelled::TooLate(_ticket) => panic!(rt; "too late"),
     };
     assert!(rt; back.mark == 2 && withdrawn.mark == 1);
-    let entries = executor.history(&rt, target);
+    let entries = executor.history(&rt, target).to_vec(rt.alloc())?;
     let want = [submit(1, 0), cancel(1, 0, Reply::Withdrawn)];
     assert!(rt; is_same(entries.as_slice(), want.as_slice()));
     Ok(())
@@ -304,7 +304,7 @@ fn a_request_is_cancelled_while_it_runs(rt: HostRuntime) -> Result<(), Fail> {
     cancel_while_it_runs(&rt, &executor, &mut target, &mut pass);
     close_with_one_queued(&rt, &executor, &mut target, &mut pass);
     executor.join(&mut target, pass);
-    let entries = executor.history(&rt, target);
+    let entries = executor.history(&rt, target).to_vec(rt.alloc())?;
     let want = [
         submit(1, 0),
         start(0),
@@ -430,7 +430,7 @@ fn each_caller_gets_back_its_own(rt: HostRuntime) -> Result<(), Fail> {
     take_unstarted(&rt, &executor, &mut one, first, 5);
     take_unstarted(&rt, &executor, &mut two, second, 6);
     let entries = executor.history(&rt, target);
-    assert!(rt; entries.as_slice().len() == 17);
+    assert!(rt; entries.len() == 17);
     Ok(())
 }
 
@@ -460,7 +460,7 @@ fn an_end_is_seen_at_the_next_look(rt: HostRuntime) -> Result<(), Fail> {
     take_result(&rt, &executor, &mut one, first, 11);
     take_unstarted(&rt, &executor, &mut two, second, 2);
     let entries = executor.history(&rt, target);
-    assert!(rt; entries.as_slice().len() == 9);
+    assert!(rt; entries.len() == 9);
     Ok(())
 }
 
@@ -473,6 +473,6 @@ fn two_executors_keep_apart(rt: HostRuntime) -> Result<(), Fail> {
     assert!(rt; tally.withdrawn == 2);
     let here = left.history(&rt, one);
     let there = right.history(&rt, two);
-    assert!(rt; here.as_slice().len() == 2 && there.as_slice().len() == 2);
+    assert!(rt; here.len() == 2 && there.len() == 2);
     Ok(())
 }

@@ -172,7 +172,7 @@ fn two_threads_submit_to_a_third(rt: HostRuntime) -> Result<(), Fail> {
     );
     executor.join(&mut target, one);
     executor.join(&mut target, two);
-    let entries = executor.history(&rt, target);
+    let entries = executor.history(&rt, target).to_vec(rt.alloc())?;
     assert!(rt; first.taken == EACH && second.taken == EACH);
     assert!(rt; first.refused == 0 && second.refused == 0);
     assert!(rt; tally_of(entries.as_slice(), 1) == first);
@@ -259,7 +259,7 @@ fn what_runs_is_told_to_stop(rt: HostRuntime) -> Result<(), Fail> {
         &rt, &executor, target, pass, &done, &running,
     );
     executor.join(&mut target, pass);
-    let entries = executor.history(&rt, target);
+    let entries = executor.history(&rt, target).to_vec(rt.alloc())?;
     assert!(rt; tally.asked == STOPPED && tally.ended == STOPPED && tally.withdrawn == 0);
     assert!(rt; served.stopped == STOPPED && served.finished == STOPPED);
     assert!(rt; tally_of(entries.as_slice(), 1) == tally);
@@ -329,7 +329,7 @@ fn an_end_is_seen_without_the_lock(rt: HostRuntime) -> Result<(), Fail> {
     let done = AtomicU32::new(0);
     let (mut target, (pass, tally)) = run_watched(&rt, &executor, target, pass, &done);
     executor.join(&mut target, pass);
-    let entries = executor.history(&rt, target);
+    let entries = executor.history(&rt, target).to_vec(rt.alloc())?;
     assert!(rt; tally.taken == EACH && tally.ended == EACH);
     assert!(rt; tally_of(entries.as_slice(), 1) == tally);
     Ok(())

@@ -394,7 +394,7 @@ fn check<W: Wait>(
         executor.join(&mut target, pass);
     }
     let entries = executor.history(rt, target);
-    let found = entries.as_slice().len() as u64;
+    let found = entries.len() as u64;
     ensure!(found == want, "{found} entries in place of {want}");
     Ok(())
 }
@@ -411,7 +411,7 @@ fn check_one<W: Wait>(
 {
     executor.join(&mut target, pass);
     let entries = executor.history(rt, target);
-    let found = entries.as_slice().len() as u64;
+    let found = entries.len() as u64;
     ensure!(found == want, "{found} entries in place of {want}");
     Ok(())
 }
@@ -508,7 +508,7 @@ fn run_four<W: Wait + Threads + Sync + Clock>(
         );
         let entries = executor.history(rt, target);
         ensure!(
-            entries.as_slice().len() as u64 == 8 * count as u64,
+            entries.len() as u64 == 8 * count as u64,
             "entries are missing"
         );
         return Ok(time);
@@ -518,7 +518,7 @@ fn run_four<W: Wait + Threads + Sync + Clock>(
     ensure!(all_done(&lanes, way, count), "not all requests ended");
     let entries = executor.history(rt, target);
     ensure!(
-        entries.as_slice().len() as u64 == 16 * count as u64 + 1,
+        entries.len() as u64 == 16 * count as u64 + 1,
         "entries are missing"
     );
     Ok(time)

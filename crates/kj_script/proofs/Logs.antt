@@ -129,22 +129,6 @@ pub on_ok : {A E : Type 0} (r : Result A E) (P Q : Type 0) → OnOk r P → (P �
 on_ok (Ok a) P Q h f = f h
 on_ok (Err e) P Q h f = h
 
-drop_suc : (xs : List NumberedLine) (i : ℕ) (d : NumberedLine) → i < length xs → drop i (map numbered_of xs) ≡ numbered_of (get_or xs i d) ∷ drop (suc i) (map numbered_of xs)
-drop_suc [] i d inside = absurd (omega arith)
-drop_suc (x ∷ xs) zero d inside = refl
-drop_suc (x ∷ xs) (suc i) d inside = drop_suc xs i d (omega arith)
-
--- the line at a place, and those behind it
-pub drop_at : (xs : List NumberedLine) (i : ℕ) (d : NumberedLine) → i < length xs → drop i (map numbered_of xs) ≡ numbered_of (get_or xs i d) ∷ drop (i + 1) (map numbered_of xs)
-drop_at xs i d inside = let next : suc i ≡ i + 1 = omega arith in drop_suc xs i d inside ∙ ap (λ (k : ℕ). numbered_of (get_or xs i d) ∷ drop k (map numbered_of xs)) next
-
--- behind the last line there is none
-pub drop_all : (xs : List NumberedLine) (i : ℕ) → length xs ≤ i → drop i (map numbered_of xs) ≡ []
-drop_all [] zero few = refl
-drop_all [] (suc i) few = refl
-drop_all (x ∷ xs) zero few = absurd (omega arith)
-drop_all (x ∷ xs) (suc i) few = drop_all xs i (omega arith)
-
 -- a turn that a line tells of
 pub turn_told : (bodies : List Body) (Stands : State → Type 0) (told : Option (List Item)) (text : List ℕ) (l : Logged) (s : State) (turned : Turned) (case : TurnedCase) → turned ≡ turned_of case → (case ≡ IdleCase → ⊥)
     → Shows bodies Stands told text (turned_line [] s (turned_of case) l) → Shows bodies Stands told text (turned_line (WasIdle ∷ []) s turned l)

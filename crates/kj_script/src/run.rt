@@ -17,20 +17,20 @@ use event_links::EventLinks;
 use kj_base::{Bytes, Limits, MAX_SLOTS, NAMES, NoMemory, SLOTS};
 use loop_core::{Loop, LoopOver};
 use node_table::NodeTable;
-use promise_commands::Script;
 use promise_names::Names;
 use promise_nodes::Nodes;
+use promise_script::Script;
 use promise_steps::ScriptSteps;
 use std::alloc::Global;
 
 // The limits of a script, or the usual ones.
-fn limits_of(limits: &Option<Limits>) -> Limits
-    requires { HaveLimits limits.now }
-    ensures limits { result ≡ limits_or limits.now }
+fn limits_of(limits: Option<Limits>) -> Limits
+    requires { HaveLimits limits }
+    ensures limits { result ≡ limits_or limits }
     ensures few { result.slots ≤ MAX_SLOTS }
 {
     match limits {
-        Some(limits) => *limits,
+        Some(limits) => limits,
         None => Limits {
             slots: SLOTS,
             names: NAMES,
@@ -71,11 +71,12 @@ pub fn run_script(alloc: Global, script: &Script) -> Result<Bytes, NoMemory>
     requires limits { HaveLimits script.now.limits }
     ensures { IfOk result (λ log. log ≡ log_text (log_of table_fits (script_of script.now))) }
 {
-    let mut over = new_loop(alloc, limits_of(&script.limits))?;
-    let mut steps = ScriptSteps::new(alloc, &script.bodies)?;
+    let mut over = new_loop(alloc, limits_of(script.limits()))?;
+    let mut steps = ScriptSteps::new(alloc, script)?;
     let mut text = Bytes::new(alloc);
-    for line in script.lines.as_slice() {
-        do_line(&mut over, &mut steps, &mut text, line)?;
+    let mut left = script.lines();
+    while let Some(line) = left.next(alloc)? {
+        do_line(&mut over, &mut steps, &mut text, &line)?;
     }
     close(over, &mut steps, &mut text)?;
     Ok(text)

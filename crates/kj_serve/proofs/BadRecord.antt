@@ -4,7 +4,7 @@ use Rattle.kj_io.specs.Causes.{Rose}
 use Rattle.conn_record.specs.Records.{IsRecording, IsNoRecording, IsWholeUpTo}
 use Rattle.http_core.specs.declared.message.Request.{Request}
 use Rattle.http_core.specs.declared.message.Answer.{Answer}
-use Rattle.kj_serve.specs.Outside.{Outside, NoFault, ReadWhole, Wrote, WroteFrontOf, WroteNothing}
+use Rattle.kj_serve.specs.Outside.{Outside, ReadWhole, Wrote, WroteFrontOf, WroteNothing}
 use Rattle.kj_serve.specs.Replay.{ReplayEnds, ReadBad, bad_record, whole_in}
 use Rattle.conn_record.specs.Refused.{IsRefusal}
 use Rattle.conn_record.specs.declared.read.RecordRefused.{RecordRefused}

@@ -5,7 +5,7 @@ use Rattle.std.proofs.lemmas.List.Elements.{All-cons, All-nil}
 use Rattle.std.proofs.lemmas.Bool.{cases_lt}
 use Rattle.std.specs.Io.KnownBytes.{Consumes, Appends}
 use Rattle.kj_base.specs.declared.limits.TheConstants.{INPUT_LIMIT}
-use Rattle.promise_commands.specs.declared.script.Script.{Script}
+use Rattle.promise_commands.specs.Script.{Script}
 use Rattle.promise_commands.specs.Scripts.{script_of}
 use Rattle.kj_model.specs.Log.{log_of}
 use Rattle.kj_model.specs.Places.{table_fits}
@@ -19,7 +19,7 @@ use Rattle.kj_serve.specs.declared.forms.Form.{Form}
 use Rattle.kj_serve.specs.declared.forms.Form.TheVariants.{Run, Replay, Make}
 use Rattle.kj_serve.specs.declared.replay.ServiceName.{ServiceName}
 use Rattle.kj_serve.specs.Outside.{Outside, NoFault, ReadWhole, Wrote}
-use Rattle.kj_serve.specs.Run.{RunsTo, RunEnds, ReadFaulty, bad_line, not_built_line}
+use Rattle.kj_serve.specs.Run.{RunsTo, RunEnds, bad_line, not_built_line}
 use Rattle.kj_serve.specs.Ends.{Ends}
 use Rattle.kj_serve.specs.Replay.{ReplayEnds, AreReplies, IsReplyText, ReplaysTo, answers_of, bad_record}
 use Rattle.kj_serve.specs.Make.{made_text}

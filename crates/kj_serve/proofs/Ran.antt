@@ -1,7 +1,6 @@
 -- A script that ran.
-use Rattle.std.proofs.Common.{◌≡◌, ◌⊎◌, ℕ, ◌<◌, List, length, Some, inl, inr, ap, subst, arith}
+use Rattle.std.proofs.Common.{◌≡◌, ◌⊎◌, ℕ, List, length, Some, inl, inr, ap, subst, arith}
 use Rattle.kj_io.specs.Causes.{Rose}
-use Rattle.kj_base.specs.declared.limits.TheConstants.{INPUT_LIMIT}
 use Rattle.promise_script.specs.Scripts.{IsBadLine, IsNotBuiltLine}
 use Rattle.promise_script.proofs.Faults.{script_not_bad, script_built}
 use Rattle.kj_serve.specs.Outside.{Outside, NoFault, ReadWhole, Wrote, WroteFrontOf}

@@ -1,9 +1,7 @@
 -- A refused input.
-use Rattle.std.proofs.Common.{◌≡◌, ◌⊎◌, ℕ, ◌<◌, List, ◌++◌, length, Option, None, Some, inl, inr, sym, ap, ◌∙◌, subst, arith, append-nil}
+use Rattle.std.proofs.Common.{◌≡◌, ◌⊎◌, ℕ, List, ◌++◌, length, Option, None, Some, inl, inr, sym, ap, ◌∙◌, subst, arith, append-nil}
 use Rattle.std.specs.Io.KnownBytes.{Consumes, IsAtEnd}
 use Rattle.kj_io.specs.Causes.{Rose}
-use Rattle.kj_base.specs.declared.limits.TheConstants.{INPUT_LIMIT}
-use Rattle.promise_commands.specs.declared.script.Script.{Script}
 use Rattle.promise_script.specs.Scripts.{IsScriptText, IsBadLine, IsNotBuiltLine}
 use Rattle.promise_script.proofs.Faults.{script_not_bad, script_built, bad_or_not_built}
 use Rattle.kj_serve.specs.Outside.{Outside, NoFault, ReadWhole, Wrote, WroteFrontOf, WroteNothing}

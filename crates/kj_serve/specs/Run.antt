@@ -5,7 +5,7 @@ use Rattle.kj_model.specs.Log.{log_of}
 use Rattle.kj_model.specs.Places.{table_fits}
 use Rattle.kj_model.specs.Text.{log_text}
 use Rattle.promise_commands.specs.Scripts.{script_of}
-use Rattle.promise_commands.specs.declared.script.Script.{Script}
+use Rattle.promise_commands.specs.Script.{Script}
 use Rattle.promise_script.specs.Scripts.{IsScriptText, IsBadLine, IsNotBuiltLine}
 use Rattle.kj_base.specs.declared.limits.TheConstants.{INPUT_LIMIT}
 use Rattle.kj_serve.specs.Outside.{Outside, NoFault, ReadPast, ReadWhole, Wrote, WroteFrontOf, WroteNothing, numbered}

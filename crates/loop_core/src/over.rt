@@ -17,7 +17,7 @@ use crate::applying::apply_over;
 use crate::closing::close_over;
 use crate::running::{run_over, turn_over};
 use kj_base::{Limits, MAX_SLOTS, NoMemory, Queue, Store};
-use name_table::NameTable;
+use name_tree::NameTree;
 use promise_commands::{Command, Refused, Steps};
 use promise_eval::{Evaluator, Ground};
 use promise_graph::Graph;
@@ -101,10 +101,10 @@ impl<N: Nodes + Drop, M: Names + Drop> LoopOver<N, M> {
     }
 }
 
-/// A loop over a store of nodes and an event queue, with its names in a table.
-pub type Loop<St, Q> = LoopOver<Graph<St, Q>, NameTable>;
+/// A loop over a store of nodes and an event queue, with its names in a search tree.
+pub type Loop<St, Q> = LoopOver<Graph<St, Q>, NameTree>;
 
-impl<St: Store + Drop, Q: Queue + Drop> LoopOver<Graph<St, Q>, NameTable> {
+impl<St: Store + Drop, Q: Queue + Drop> LoopOver<Graph<St, Q>, NameTree> {
     /// A loop in which nothing was built, over a store and a queue that are new. This takes all memory that the loop
     /// itself will need.
     pub fn new(
@@ -112,7 +112,7 @@ impl<St: Store + Drop, Q: Queue + Drop> LoopOver<Graph<St, Q>, NameTable> {
         limits: Limits,
         store: St,
         queue: Q,
-    ) -> Result<LoopOver<Graph<St, Q>, NameTable>, NoMemory>
+    ) -> Result<LoopOver<Graph<St, Q>, NameTree>, NoMemory>
         requires few { limits.slots ≤ MAX_SLOTS }
         requires store { St.slots store ≡ limits.slots }
         requires size { Q.size queue ≡ limits.slots + 1 }
@@ -122,7 +122,7 @@ impl<St: Store + Drop, Q: Queue + Drop> LoopOver<Graph<St, Q>, NameTable> {
         ensures stands { IfOk result (λ l. TakesNoMore St.rule → StandsAt St.rule (StandsFor (St.node_at l.nodes.store) (Q.events l.nodes.queue) (St.stands l.nodes.store) l.nodes.marks) (NamesStand l.names) (new_state limits)) }
     {
         let graph = Graph::new(alloc, limits, store, queue)?;
-        let names = NameTable::new(alloc, limits)?;
+        let names = NameTree::new(alloc, limits)?;
         let ground = Ground::new(alloc, graph, names)?;
         let over = Evaluator::new(alloc, ground)?;
         Ok(LoopOver { over })

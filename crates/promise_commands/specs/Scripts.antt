@@ -5,8 +5,7 @@ use Rattle.promise_commands.specs.Commands.{command_of, action_of}
 use Rattle.promise_commands.specs.declared.script.Line.{Line as LineCase}
 use Rattle.promise_commands.specs.declared.script.Line.TheVariants.{Do as DoCase, Turn as TurnCase, Run as RunCase}
 use Rattle.promise_commands.specs.declared.script.NumberedLine.{NumberedLine}
-use Rattle.promise_commands.specs.declared.script.Body.{Body as BodyCase}
-use Rattle.promise_commands.specs.declared.script.Script.{Script as ScriptCase}
+use Rattle.promise_commands.specs.Script.{Body as BodyCase, Script as ScriptCase}
 
 -- the line that each variant is
 abbrev pub line_of : LineCase → Line

@@ -6,21 +6,25 @@ use arrayvec::ArrayVec;
 use kj_base::Ending;
 use std::marker::Model;
 
-/// 0 to 16 commands, applied in order.
+/// How many commands one run of a step may give.
+pub const MAX_COMMANDS: usize = 16;
+
+/// 0 to `MAX_COMMANDS` commands, applied in order.
 #[derive(Drop)]
 pub struct Commands {
-    items: ArrayVec<Command, 16>,
+    items: ArrayVec<Command, MAX_COMMANDS>,
 }
 
 impl Model for Commands {
     ghost use Rattle.std.specs.Prelude.{List, length, ◌≤◌};
     ghost use Rattle.promise_commands.specs.declared.command.Command.{Command};
+    ghost use Rattle.promise_commands.specs.declared.action.TheConstants.{MAX_COMMANDS};
 
     ghost Value = { List Command };
 
     ghost view = { λ c. c.items.items };
 
-    ghost invariant = { λ c. length c.items.items ≤ 16 };
+    ghost invariant = { λ c. length c.items.items ≤ MAX_COMMANDS };
 }
 
 impl Commands {
@@ -32,18 +36,18 @@ impl Commands {
         }
     }
 
-    /// Puts a command at the end; false where 16 commands are there.
+    /// Puts a command at the end; false where no more may be there.
     pub fn push(&mut self, command: Command) -> bool
-        ensures answer { IsTrue result ↔ (length self.old < 16) }
-        ensures pushed { length self.old < 16 → self.new ≡ self.old ++ command ∷ [] }
-        ensures full { 16 ≤ length self.old → self.new ≡ self.old }
+        ensures answer { IsTrue result ↔ (length self.old < MAX_COMMANDS) }
+        ensures pushed { length self.old < MAX_COMMANDS → self.new ≡ self.old ++ command ∷ [] }
+        ensures full { MAX_COMMANDS ≤ length self.old → self.new ≡ self.old }
     {
         self.items.try_push(command).is_ok()
     }
 
     pub fn as_slice(&self) -> &[Command]
         ensures commands { result.now ≡ self.now }
-        ensures few { length self.now ≤ 16 }
+        ensures few { length self.now ≤ MAX_COMMANDS }
     {
         self.items.as_slice()
     }

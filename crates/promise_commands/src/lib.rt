@@ -8,9 +8,9 @@ mod script;
 mod sources;
 mod steps;
 
-pub use action::{Action, Commands};
+pub use action::{Action, Commands, MAX_COMMANDS};
 pub use command::Command;
 pub use refused::Refused;
-pub use script::{Bodies, Body, Line, Lines, NumberedLine, Script};
+pub use script::{Line, NumberedLine};
 pub use sources::{MAX_PARTS, Sources};
 pub use steps::Steps;

@@ -3,6 +3,7 @@ use Rattle.std.proofs.Common.{◌≡◌, ℕ, zero, suc, ◌+◌, ◌<◌, ◌�
 use Rattle.std.specs.Prelude.{slice_index_or, unwrap_or, replicate, IsSome}
 use Rattle.std.proofs.lemmas.List.{length-replicate}
 use Rattle.std.proofs.lemmas.Bool.{cases_eq, false≢true}
+use Rattle.kj_base.specs.declared.limits.TheConstants.{MAX_SLOTS}
 use Rattle.kj_base.specs.Queue.{Events, no_events}
 use Rattle.kj_base.specs.Places.{Spot}
 use Rattle.kj_base.proofs.QueueLemmas.{empty_is}
@@ -98,7 +99,7 @@ module _ (at : ℕ → Option Node) (none : (s : ℕ) → at s ≡ None) (m : Ma
       place_of : (s : ℕ) → s < m.slots + 1 → s < slots + 1
       place_of s h = omega (arith, h, new.slots_are)
 
-  pub new_kept : (bare : ℕ → Bool) (q : Events) (store_slots size : ℕ) → slots ≤ 4194304 → store_slots ≡ slots → size ≡ slots + 1 → q ≡ no_events → IsKept at bare q store_slots size m
+  pub new_kept : (bare : ℕ → Bool) (q : Events) (store_slots size : ℕ) → slots ≤ MAX_SLOTS → store_slots ≡ slots → size ≡ slots + 1 → q ≡ no_events → IsKept at bare q store_slots size m
   new_kept bare q store_slots size few store size_is empty_q = record {
     sound = record {
       store_is = store ∙ sym new.slots_are;

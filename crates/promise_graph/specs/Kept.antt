@@ -1,6 +1,7 @@
 -- What each call of a graph keeps, whatever world it stands for.
 use Rattle.std.specs.Prelude.{◌≡◌, ◌<◌, ◌≤◌, ℕ, zero, suc, ◌+◌, ◌*◌, List, [], length, Option, None, Some, Bool, true, false, ◌==◌, ◌&&◌, not, nat_lt, unwrap_or, slice_index_or, vec_capacity, IsSome}
 use Rattle.std.specs.List.{AllByRecursion}
+use Rattle.kj_base.specs.declared.limits.TheConstants.{MAX_SLOTS}
 use Rattle.kj_base.specs.Queue.{Events, IsQueue}
 use Rattle.kj_base.specs.declared.nodes.Node.{Node}
 use Rattle.kj_base.specs.declared.nodes.Link.{Link}
@@ -107,7 +108,7 @@ IsArmable at (suc s) = IsSome (number_at at s)
 
 -- each live slot has its number, and the index finds it
 pub record AreNumbered (at : ℕ → Option Node) (m : Marks) : Type 0 where
-  pub few : m.slots ≤ 4194304
+  pub few : m.slots ≤ MAX_SLOTS
   pub first : 0 < m.next
   pub low : (s : ℕ) → IsSome (number_at at s) → s < m.slots
   pub all : length m.numbers.items ≡ m.slots

@@ -4,7 +4,7 @@ ghost use Rattle.promise_graph.specs.Kept.{nobody};
 ghost use Rattle.promise_graph.specs.New.{AreNew, AreSlots};
 
 use crate::fields::{Marks, Rings};
-use kj_base::{Link, NoMemory, NodeId, Slot};
+use kj_base::{Link, MAX_SLOTS, NoMemory, NodeId, Slot};
 use std::alloc::Global;
 
 // No node.
@@ -68,7 +68,7 @@ fn rings(alloc: Global, count: u32) -> Result<Rings, NoMemory>
 
 // The marks of so many empty slots.
 pub(crate) fn new_marks(alloc: Global, count: u32) -> Result<Marks, NoMemory>
-    requires { count ≤ 4194304 }
+    requires { count ≤ MAX_SLOTS }
     ensures { IfOk result (λ m. AreNew m count) }
 {
     let index = match Vec::with_capacity(alloc, 2 * count as usize + 1) {

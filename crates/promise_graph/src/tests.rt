@@ -3,7 +3,7 @@ ghost use Rattle.std.specs.Prelude.{◌≤◌};
 
 use crate::Graph;
 use event_list::EventList;
-use kj_base::{Form, Limits, NoMemory, NodeId, Outcome, Words};
+use kj_base::{Form, Limits, MAX_SLOTS, NoMemory, NodeId, Outcome, Words};
 use node_table::NodeTable;
 use promise_nodes::{NodeRow, Nodes, Way};
 use std::alloc::Global;
@@ -15,7 +15,7 @@ const ANEW: NodeRow = NodeRow {
 };
 
 fn table_graph(alloc: Global, slots: u32) -> Result<Graph<NodeTable, EventList>, NoMemory>
-    requires { slots ≤ 4194304 }
+    requires { slots ≤ MAX_SLOTS }
 {
     let store = match NodeTable::new(alloc, slots) {
         Ok(store) => store,

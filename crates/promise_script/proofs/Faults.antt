@@ -4,16 +4,14 @@ use Rattle.std.specs.Prelude.{codes, bytes_eq}
 use Rattle.std.proofs.lemmas.List.{append-nil}
 use Rattle.std.proofs.lemmas.Slice.Eq.{bytes_eq-Decides}
 use Rattle.kj_base.specs.declared.endings.Ending.TheVariants.{Input}
-use Rattle.promise_commands.specs.declared.script.Script.{Script}
+use Rattle.promise_commands.specs.Script.{Script}
 use Rattle.promise_script.specs.declared.meaning.Meaning.{Meaning}
 use Rattle.promise_script.specs.declared.meaning.Meaning.TheVariants.{Close}
 use Rattle.promise_script.specs.declared.reader.ReadRefused.{ReadRefused}
 use Rattle.promise_script.specs.declared.reader.ReadRefused.TheVariants.{Bad, NotBuilt, NoMemory}
-use Rattle.promise_script.specs.declared.reading.Part.{Part}
-use Rattle.promise_script.specs.declared.reading.Reading.{Reading}
 use Rattle.promise_script.specs.ScriptText.{first_word, lines_of}
 use Rattle.promise_script.specs.Decode.{and_then, text_read}
-use Rattle.promise_script.specs.Assembly.{stood, part_closed, line_stood, unbuilt_command, unbuilt_here, refused_at, is_inside, ended, went_on, before_lines, script_read}
+use Rattle.promise_script.specs.Assembly.{Part, Reading, stood, part_closed, line_stood, unbuilt_command, unbuilt_here, refused_at, is_inside, ended, went_on, before_lines, script_read}
 use Rattle.promise_script.specs.Scripts.{IsScript, IsScriptText, BeginsScript, IsFaulty, IsUnclosed, unbuilt_commands, is_among, IsUnbuilt, IsBadLine, IsNotBuiltLine, IsReadAs}
 use Rattle.promise_script.proofs.Folds.{lines_stood, read_behind, none_behind, stood_more}
 use Rattle.promise_script.proofs.Pieces.{script_complete}

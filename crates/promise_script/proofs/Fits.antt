@@ -7,7 +7,7 @@ use Rattle.kj_base.specs.declared.numbers.Limits.{Limits}
 use Rattle.promise_commands.specs.declared.script.Line.{Line}
 use Rattle.promise_commands.specs.declared.script.Line.TheVariants.{Do as DoLine, Turn as TurnLine, Run as RunLine}
 use Rattle.promise_commands.specs.declared.script.NumberedLine.{NumberedLine}
-use Rattle.promise_commands.specs.declared.script.Script.{Script}
+use Rattle.promise_commands.specs.Script.{Script}
 use Rattle.promise_script.specs.declared.meaning.Meaning.{Meaning}
 use Rattle.promise_script.specs.declared.meaning.Meaning.TheVariants.{Nothing, Limits as LimitsLine, Do, Turn, Run, Step, Close}
 use Rattle.promise_script.specs.declared.reader.ReadRefused.{ReadRefused}

@@ -1,10 +1,9 @@
 -- Lines one after another: what a reading is behind them.
 use Rattle.std.proofs.Common.{◌≡◌, ℕ, ◌+◌, List, [], ◌∷◌, ◌++◌, Option, None, Some, Ok, Err, refl, ap, ◌∙◌, arith, length}
-use Rattle.promise_commands.specs.declared.script.Script.{Script}
+use Rattle.promise_commands.specs.Script.{Script}
 use Rattle.promise_script.specs.declared.meaning.Meaning.{Meaning}
-use Rattle.promise_script.specs.declared.reading.Reading.{Reading}
 use Rattle.promise_script.specs.Decode.{and_then}
-use Rattle.promise_script.specs.Assembly.{stood, line_stood, went_on, refused_at, is_inside, script_read}
+use Rattle.promise_script.specs.Assembly.{Reading, stood, line_stood, went_on, refused_at, is_inside, script_read}
 use Rattle.promise_script.specs.Scripts.{MeanAll}
 use Rattle.promise_script.proofs.Meanings.{text_complete}
 

@@ -2,10 +2,13 @@ pub mod Numbers
 pub mod Lists
 pub mod Shapes
 pub mod Meanings
-pub mod Cuts
+pub mod Cutting
 pub mod Openings
 pub mod Folds
 pub mod Pieces
 pub mod Sounds
 pub mod Faults
 pub mod Fits
+pub mod Keeping
+pub mod Outside
+pub mod Reading

@@ -8,10 +8,8 @@ use Rattle.promise_commands.specs.declared.script.Line.{Line}
 use Rattle.promise_commands.specs.declared.script.Line.TheVariants.{Do as DoLine, Turn as TurnLine, Run as RunLine}
 use Rattle.promise_script.specs.declared.meaning.Meaning.{Meaning}
 use Rattle.promise_script.specs.declared.meaning.Meaning.TheVariants.{Nothing, Limits as LimitsLine, Do, Turn, Run, Step, Close}
-use Rattle.promise_script.specs.declared.reading.Part.{Part}
-use Rattle.promise_script.specs.declared.reading.Reading.{Reading}
 use Rattle.promise_script.specs.Decode.{text_read}
-use Rattle.promise_script.specs.Assembly.{outside, with_line, part_commanded, part_closed, stood, line_stood, is_inside}
+use Rattle.promise_script.specs.Assembly.{Part, Reading, outside, with_line, part_commanded, part_closed, stood, line_stood, is_inside}
 use Rattle.promise_script.proofs.Meanings.{text_sound, then_some}
 
 abbrev Opens : Meaning → Reading → Type 0

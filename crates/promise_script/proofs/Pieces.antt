@@ -9,16 +9,14 @@ use Rattle.kj_base.specs.declared.endings.Ending.{Ending}
 use Rattle.promise_commands.specs.declared.command.Command.{Command}
 use Rattle.promise_commands.specs.declared.script.Line.TheVariants.{Do as DoLine, Turn as TurnLine, Run as RunLine}
 use Rattle.promise_commands.specs.declared.script.NumberedLine.{NumberedLine}
-use Rattle.promise_commands.specs.declared.script.Body.{Body}
-use Rattle.promise_commands.specs.declared.script.Script.{Script}
+use Rattle.promise_commands.specs.Script.{Body}
+use Rattle.promise_commands.specs.Script.{Script}
 use Rattle.promise_script.specs.declared.meaning.Meaning.{Meaning}
 use Rattle.promise_script.specs.declared.meaning.Meaning.TheVariants.{Nothing}
-use Rattle.promise_script.specs.declared.meaning.TheConstants.{MAX_COMMANDS}
+use Rattle.promise_commands.specs.declared.action.TheConstants.{MAX_COMMANDS}
 use Rattle.promise_script.specs.declared.reader.ReadRefused.{ReadRefused}
-use Rattle.promise_script.specs.declared.reading.Part.{Part}
-use Rattle.promise_script.specs.declared.reading.Reading.{Reading}
 use Rattle.promise_script.specs.Decode.{and_then}
-use Rattle.promise_script.specs.Assembly.{before_lines, script_read}
+use Rattle.promise_script.specs.Assembly.{Part, Reading, before_lines, script_read}
 use Rattle.promise_script.specs.Scripts.{Piece, Remark, Stands, Bodied, body_meanings, piece_meanings, limits_meanings, commands_of, body_with, piece_bodies, piece_lines, lines_in, PieceFits, PiecesFit, IsScript}
 use Rattle.promise_script.proofs.Folds.{lines_stood, meanings_stood, lines_mean, read_behind, meanings_behind}
 

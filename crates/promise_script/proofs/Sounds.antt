@@ -10,15 +10,14 @@ use Rattle.promise_commands.specs.declared.command.Command.{Command}
 use Rattle.promise_commands.specs.declared.script.Line.{Line}
 use Rattle.promise_commands.specs.declared.script.Line.TheVariants.{Do as DoLine, Turn as TurnLine, Run as RunLine}
 use Rattle.promise_commands.specs.declared.script.NumberedLine.{NumberedLine}
-use Rattle.promise_commands.specs.declared.script.Body.{Body}
-use Rattle.promise_commands.specs.declared.script.Script.{Script}
+use Rattle.promise_commands.specs.Script.{Body}
+use Rattle.promise_commands.specs.Script.{Script}
 use Rattle.promise_script.specs.declared.meaning.Meaning.{Meaning}
 use Rattle.promise_script.specs.declared.meaning.Meaning.TheVariants.{Nothing, Limits as LimitsLine, Do, Turn, Run, Step, Close}
-use Rattle.promise_script.specs.declared.meaning.TheConstants.{MAX_COMMANDS}
-use Rattle.promise_script.specs.declared.reading.Part.{Part}
+use Rattle.promise_commands.specs.declared.action.TheConstants.{MAX_COMMANDS}
 use Rattle.promise_script.specs.ScriptText.{Means}
 use Rattle.promise_script.specs.Decode.{and_then, text_read}
-use Rattle.promise_script.specs.Assembly.{stood, is_inside, refused_at, went_on, ended, before_lines, script_read}
+use Rattle.promise_script.specs.Assembly.{Part, stood, is_inside, refused_at, went_on, ended, before_lines, script_read}
 use Rattle.promise_script.specs.Scripts.{Piece, Remark, Stands, Bodied, line_meaning, body_meanings, piece_meanings, limits_meanings, commands_of, body_with, piece_bodies, lines_in, PiecesFit, MeanAll, IsScript}
 use Rattle.promise_script.proofs.Meanings.{text_sound}
 use Rattle.promise_script.proofs.Pieces.{reading, part_with}

@@ -1,27 +1,34 @@
 -- How a reader puts lines together. `ScriptText` says which lines are a script; the proofs tie the two.
-use Rattle.std.specs.Prelude.{◌≡◌, ℕ, ◌+◌, List, [], ◌∷◌, ◌++◌, Option, None, Some, Bool, true, false, cond, not, ◌&&◌, ◌||◌, bytes_eq, codes, length, nat_lt, Result, Ok, Err}
+use Rattle.std.specs.Prelude.{ℕ, ◌+◌, List, [], ◌∷◌, ◌++◌, Option, None, Some, Bool, true, false, cond, not, ◌&&◌, ◌||◌, bytes_eq, codes, length, nat_lt, Result, Ok, Err}
 use Rattle.kj_base.specs.declared.numbers.StepId.{StepId}
 use Rattle.kj_base.specs.declared.numbers.Limits.{Limits}
 use Rattle.kj_base.specs.declared.endings.Ending.{Ending}
 use Rattle.promise_commands.specs.declared.command.Command.{Command}
 use Rattle.promise_commands.specs.declared.script.Line.{Line}
+use Rattle.promise_commands.specs.declared.script.NumberedLine.{NumberedLine}
 use Rattle.promise_commands.specs.declared.script.Line.TheVariants.{Do as DoLine, Turn as TurnLine, Run as RunLine}
-use Rattle.promise_commands.specs.declared.script.Body.{Body}
-use Rattle.promise_script.specs.declared.meaning.TheConstants.{MAX_COMMANDS}
+use Rattle.promise_commands.specs.Script.{Body}
+use Rattle.promise_commands.specs.declared.action.TheConstants.{MAX_COMMANDS}
 use Rattle.promise_script.specs.declared.meaning.Meaning.{Meaning}
 use Rattle.promise_script.specs.declared.meaning.Meaning.TheVariants.{Nothing, Limits as LimitsLine, Do, Turn, Run, Step, Close}
-use Rattle.promise_commands.specs.declared.script.Script.{Script}
+use Rattle.promise_commands.specs.Script.{Script}
 use Rattle.promise_script.specs.declared.reader.ReadRefused.{ReadRefused}
 use Rattle.promise_script.specs.declared.reader.ReadRefused.TheVariants.{Bad, NotBuilt}
 use Rattle.promise_script.specs.ScriptText.{first_word}
 use Rattle.promise_script.specs.Decode.{and_then, text_read}
-use Rattle.promise_script.specs.declared.reading.Part.{Part}
-use Rattle.promise_script.specs.declared.reading.Reading.{Reading}
 
--- the answer tells whether there is a next reading, which it is
-abbrev pub Answers : Bool → Option Reading → Reading → Type 0
-Answers true next r = next ≡ Some r
-Answers false next r = next ≡ None
+-- the body whose end wasn't read yet
+pub record Part : Type 0 where
+  pub step : StepId
+  pub commands : List Command
+
+-- what the lines so far say; `started` is whether one meant something
+pub record Reading : Type 0 where
+  pub started : Bool
+  pub limits : Option Limits
+  pub bodies : List Body
+  pub lines : List NumberedLine
+  pub part : Option Part
 
 -- what may stand outside bodies alone
 abbrev pub outside : Option Part → Reading → Option Reading

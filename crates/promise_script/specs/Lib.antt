@@ -2,3 +2,5 @@ pub mod ScriptText
 pub mod Decode
 pub mod Assembly
 pub mod Scripts
+pub mod Left
+pub mod Kept

@@ -1,6 +1,6 @@
 //! Laws of the text of scripts.
 ghost use Rattle.std.specs.Prelude.{◌≡◌, ◌⊎◌, List, ℕ, Result, Err};
-ghost use Rattle.promise_commands.specs.declared.script.Script.{Script};
+ghost use Rattle.promise_commands.specs.Script.{Script};
 ghost use Rattle.promise_script.specs.declared.meaning.Meaning.{Meaning};
 ghost use Rattle.promise_script.specs.declared.reader.ReadRefused.{ReadRefused};
 ghost use Rattle.promise_script.specs.ScriptText.{Means};

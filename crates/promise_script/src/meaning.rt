@@ -5,9 +5,6 @@ use promise_commands::Command;
 /// The most words that a value has.
 pub const MAX_WORDS: usize = 16;
 
-/// The most commands that a body has.
-pub const MAX_COMMANDS: usize = 16;
-
 /// The most turns of one line.
 pub const MAX_TURNS: u32 = 1_000_000;
 

@@ -1,15 +1,16 @@
 //! Reading of scripts.
-ghost use Rattle.std.specs.Prelude.{true, ◌≡◌, ◌<◌, ◌≤◌, ◌+◌, ◌^◌, ◌==◌, ◌∷◌, IfOk, length};
-ghost use Rattle.std.specs.List.{position};
-ghost use Rattle.promise_script.specs.ScriptText.{lines_of, first_word};
+ghost use Rattle.std.specs.Prelude.{true, ◌≡◌, ◌<◌, ◌^◌, IfOk, length};
 ghost use Rattle.promise_script.specs.Scripts.{IsReadAs, ScriptFits};
-ghost use Rattle.promise_script.specs.Assembly.{Answers, line_stood, unbuilt_command, refused_at, is_inside, ended, script_read, before_lines};
+ghost use Rattle.promise_script.specs.Assembly.{refused_at, unbuilt_command};
+ghost use Rattle.promise_script.specs.Kept.{Answers, IsKeptAs, kept_before, line_stood};
 
+use crate::cuts::{first_line, first_word_of};
+use crate::kept::Kept;
 use crate::lines::find_meaning;
-use crate::reading::{Reading, new_reading};
+use crate::script::Script;
+use crate::spots::Spots;
 use kj_base::NoMemory;
-use promise_commands::Script;
-use std::alloc::{AllocError, Global};
+use std::alloc::Global;
 use thiserror::Error;
 
 /// Why a text was not read. A line is told by its number, from 1: the first that no script has
@@ -32,36 +33,6 @@ impl From<NoMemory> for ReadRefused {
 
     fn from(_error: NoMemory) -> ReadRefused {
         ReadRefused::NoMemory
-    }
-}
-
-// Where an octet stands first.
-fn find_octet(octets: &[u8], sought: u8) -> Option<usize>
-    ensures { result ≡ position (λ c. c == sought) octets.now }
-{
-    octets.iter().position(|octet| *octet == sought)
-}
-
-// The first line of octets that are left, and what follows its end.
-fn first_line(rest: &[u8]) -> (&[u8], &[u8])
-    requires { 0 < length rest.now }
-    ensures lines { lines_of rest.now ≡ result.0.now ∷ lines_of result.1.now }
-    ensures shorter { length result.1.now < length rest.now }
-    ensures parts { length result.0.now + length result.1.now ≤ length rest.now }
-{
-    match find_octet(rest, b'\n') {
-        Some(at) => (&rest[..at], &rest[at + 1..]),
-        None => (rest, &rest[rest.len()..]),
-    }
-}
-
-// The octets up to the first space.
-fn first_word_of(text: &[u8]) -> &[u8]
-    ensures { result.now ≡ first_word text.now }
-{
-    match find_octet(text, b' ') {
-        Some(at) => &text[..at],
-        None => text,
     }
 }
 
@@ -97,64 +68,75 @@ fn refusal(text: &[u8], number: u32, inside: bool) -> ReadRefused
     ReadRefused::Bad { line: number }
 }
 
-// Adds one line; false where it may not stand here.
-fn stand_line(
-    alloc: Global,
-    reading: &mut Reading,
-    number: u32,
-    text: &[u8],
-) -> Result<bool, NoMemory>
+// Adds one line, behind which the text goes on at this place; false where it may not stand here.
+fn stand_line(alloc: Global, kept: &mut Kept, place: u32, text: &[u8]) -> Result<bool, NoMemory>
     ensures { IfOk result
-        (λ stands. Answers stands (line_stood number reading.old text.now) reading.new) }
+        (λ stands. Answers stands (line_stood place kept.old text.now) kept.new) }
 {
     match find_meaning(alloc, text)? {
-        Some(meaning) => reading.stand(number, meaning),
+        Some(meaning) => kept.stand(place, &meaning),
         None => Ok(false),
     }
 }
 
-// What was read, after so many lines.
-fn finish(reading: Reading, number: u32) -> Result<Script, ReadRefused>
-    requires { is_inside reading.part ≡ true → number + 1 < 2 ^ 32 }
-    ensures { result ≡ ended number reading }
+// How many lines begin a body, in the text of a script.
+fn count_bodies(octets: &[u8]) -> usize {
+    octets
+        .split(|octet| *octet == b'\n')
+        .filter(|text| text.starts_with(b"step "))
+        .count()
+}
+
+// Before the first line, with room for the bodies.
+fn before_lines(alloc: Global, octets: &[u8]) -> Result<Kept, NoMemory>
+    ensures { IfOk result (λ kept. kept ≡ kept_before) }
 {
-    if reading.part.is_some() {
-        return Err(ReadRefused::Bad { line: number + 1 });
-    }
-    Ok(Script {
-        limits: reading.limits,
-        bodies: reading.bodies,
-        lines: reading.lines,
+    let spots = Spots::with_capacity(alloc, count_bodies(octets))?;
+    Ok(Kept {
+        started: false,
+        limits: None,
+        spots,
+        body: None,
     })
 }
 
 /// Reads a script, line by line: lines end with LF, the last may end with the text. An `Err` tells
 /// the first line that no script has behind the lines before it, or that memory ran out.
-pub fn read(alloc: Global, octets: &[u8]) -> Result<Script, ReadRefused>
+pub fn read<'a>(alloc: Global, octets: &'a [u8]) -> Result<Script<'a>, ReadRefused>
     requires { length octets.now < 2 ^ 32 }
     ensures text { IsReadAs octets.now result }
     ensures fits { IfOk result (λ script. ScriptFits script) }
 {
-    read_lines(alloc, octets)
+    match read_lines(alloc, octets) {
+        Ok(kept) => Ok(Script {
+            octets,
+            limits: kept.limits,
+            spots: kept.spots,
+        }),
+        Err(refused) => Err(refused),
+    }
 }
 
 // Reads the lines one after another.
-fn read_lines(alloc: Global, octets: &[u8]) -> Result<Script, ReadRefused>
+fn read_lines(alloc: Global, octets: &[u8]) -> Result<Kept, ReadRefused>
     requires { length octets.now < 2 ^ 32 }
-    ensures { (result ≡ Err ReadRefused.NoMemory → ⊥)
-        → result ≡ script_read 0 before_lines (lines_of octets.now) }
+    ensures { IsKeptAs octets.now result }
 {
-    let mut reading = new_reading(alloc);
+    let mut kept = before_lines(alloc, octets)?;
     let mut rest = octets;
     let mut number: u32 = 0;
     while !rest.is_empty() {
         let (text, behind) = first_line(rest);
+        let place = (octets.len() - behind.len()) as u32;
         number += 1;
-        let inside = reading.part.is_some();
-        if !stand_line(alloc, &mut reading, number, text)? {
+        let inside = kept.body.is_some();
+        if !stand_line(alloc, &mut kept, place, text)? {
             return Err(refusal(text, number, inside));
         }
         rest = behind;
     }
-    finish(reading, number)
+    if kept.body.is_some() {
+        return Err(ReadRefused::Bad { line: number + 1 });
+    }
+    Ok(kept)
 }

@@ -1,7 +1,7 @@
 //! Whole scripts and what they are read as, worked by hand from the grammar.
-use crate::{MAX_COMMANDS, ReadRefused, one_script, read, some_script};
-use kj_base::{INPUT_LIMIT, Limits, StepId};
-use promise_commands::{Command, Line, Script};
+use crate::{ReadRefused, Script, one_script, read, some_script};
+use kj_base::{Ending, INPUT_LIMIT, Limits, NoMemory, StepId};
+use promise_commands::{Command, Line, MAX_COMMANDS, NumberedLine};
 use std::alloc::{AllocError, Global};
 use std::test::Fail;
 
@@ -202,14 +202,54 @@ fn counts_the_commands_of_a_body(rt: HostRuntime) -> Result<(), Fail> {
     Ok(())
 }
 
-// The numbers of the lines outside bodies.
-fn has_numbers(script: &Script, numbers: &[u32]) -> bool {
-    let lines = script.lines.as_slice();
-    lines.len() == numbers.len()
-        && lines
-            .iter()
-            .zip(numbers.iter())
-            .all(|(line, number)| line.number == *number)
+// The lines outside bodies.
+fn lines_of(alloc: Global, script: &Script) -> Result<Vec<NumberedLine>, NoMemory> {
+    let mut lines = Vec::new(alloc);
+    let mut left = script.lines();
+    for _ in 0..100 {
+        match left.next(alloc)? {
+            Some(line) => lines.push(line)?,
+            None => return Ok(lines),
+        }
+    }
+    Ok(lines)
+}
+
+// Whether the lines outside bodies have these numbers.
+fn has_numbers(alloc: Global, text: &[u8], numbers: &[u32]) -> Result<bool, Fail> {
+    if text.len() > INPUT_LIMIT {
+        return Ok(false);
+    }
+    let script = read(alloc, text)?;
+    let lines = lines_of(alloc, &script)?;
+    Ok(
+        lines.len() == numbers.len()
+            && lines
+                .iter()
+                .zip(numbers.iter())
+                .all(|(line, number)| line.number == *number),
+    )
+}
+
+#[test]
+fn numbers_lines_outside_bodies(rt: HostRuntime) -> Result<(), Fail> {
+    for (text, numbers) in [
+        (b"".as_slice(), [].as_slice()),
+        (b"# x\n\n", &[]),
+        (b"limits 8 1\n", &[]),
+        (b"turn", &[1]),
+        (b"turn\n\nturn\n", &[1, 3]),
+        (b"step 1\ninput\n", &[]),
+        (b"step 1\nlater 2\ninput\nturn\nstep 1\ninput\n", &[4]),
+        (b"turn\nstep 1\n\n# x\nlater 2\ninput\nrun 3", &[1, 7]),
+        (
+            b"step 1\ninput\nstep 2\nlater 1\nvalue\n\nlater 1\nturn\n",
+            &[7, 8],
+        ),
+    ] {
+        assert!(rt; has_numbers(rt.alloc(), text, numbers)?);
+    }
+    Ok(())
 }
 
 #[test]
@@ -220,19 +260,23 @@ fn tells_limits_bodies_and_lines(rt: HostRuntime) -> Result<(), Fail> {
         slots: 16,
         names: 2,
     };
-    assert!(rt; script.limits == Some(limits));
-    assert!(rt; has_numbers(&script, &[3, 9, 12]));
-    let [first, second, third] = script.lines.as_slice() else {
+    assert!(rt; script.limits() == Some(limits));
+    let lines = lines_of(rt.alloc(), &script)?;
+    let [first, second, third] = lines.as_slice() else {
         return Err(Fail::new("others were read"));
     };
     assert!(rt; matches!(&first.line, Line::Do(Command::Later { name }) if name.0 == 1));
     assert!(rt; matches!(&second.line, Line::Run(7)));
     assert!(rt; matches!(&third.line, Line::Turn));
-    let [five, six] = script.bodies.as_slice() else {
-        return Err(Fail::new("others were read"));
-    };
-    assert!(rt; five.step == StepId(5) && six.step == StepId(6));
-    assert!(rt; five.action.commands.as_slice().len() == 1);
-    assert!(rt; six.action.commands.as_slice().is_empty());
+    assert!(rt; script.body_count() == 2);
+    assert!(rt; script.step(0) == StepId(5) && script.step(1) == StepId(6));
+    let five = script.action(rt.alloc(), 0)?;
+    let six = script.action(rt.alloc(), 1)?;
+    let beyond = script.action(rt.alloc(), 2)?;
+    assert!(rt; five.commands.as_slice().len() == 1);
+    assert!(rt; matches!(&five.ending, Ending::Value(words) if words.as_slice().is_empty()));
+    assert!(rt; six.commands.as_slice().is_empty());
+    assert!(rt; matches!(&six.ending, Ending::Input));
+    assert!(rt; beyond.commands.as_slice().is_empty());
     Ok(())
 }

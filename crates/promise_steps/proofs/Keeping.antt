@@ -10,7 +10,8 @@ use Rattle.kj_model.specs.Text.{log_text}
 use Rattle.promise_commands.specs.Answers.{Agrees}
 use Rattle.promise_steps.specs.Order.{InOrder, left_of, IsLeft}
 use Rattle.promise_steps.specs.Following.{coming, since, Prints}
-use Rattle.promise_steps.specs.Kept.{begun_of, items_of, told_if, told_by, Grows, IsKept}
+use Rattle.promise_commands.specs.Script.{Body as BodyCase}
+use Rattle.promise_steps.specs.Kept.{begun_of, bodies_in, items_of, told_if, told_by, Grows, IsKept}
 use Rattle.promise_steps.specs.declared.kept.Kept.{Kept}
 use Rattle.promise_steps.specs.declared.order.Entry.{Entry}
 use Rattle.promise_steps.proofs.Agreeing.{agrees_more, agrees_freed, left_twice, left_freed, prints}
@@ -27,12 +28,12 @@ told_more old new item begun grown =
     subst (λ (l : List Body). Tells (told_by old) (item ∷ []) (told_if new.whole (since l (items_of new)))) (sym begun)
     (told_grows old.whole new.whole (begun_of old) (items_of old) (items_of new) item grown)
 
-pub kept_run : (old new : Kept) (n step : ℕ) (input : Outcome) (action : Action) → IsKept old → InOrder new.order.items
-    → scripted (left_of old.order.items) [] step ≡ Some action
-    → IsLeft (left_of new.order.items) (left_of old.order.items) (Run n step input action ∷ [])
+pub kept_run : (old new : Kept) (n step : ℕ) (input : Outcome) (action : Action) → IsKept old → bodies_in new ≡ bodies_in old → InOrder (bodies_in old) new.order.items
+    → scripted (left_of (bodies_in old) old.order.items) [] step ≡ Some action
+    → IsLeft (left_of (bodies_in old) new.order.items) (left_of (bodies_in old) old.order.items) (Run n step input action ∷ [])
     → begun_of new ≡ begun_of old → Grows old new (Run n step input action) → IsKept new
-kept_run old new n step input action kept order gives left begun grown = record {
-  in_order = order;
+kept_run old new n step input action kept script order gives left begun grown = record {
+  in_order = subst (λ (bs : List BodyCase). InOrder bs new.order.items) (sym script) order;
   agrees = λ whole.
       let g = grown whole in
       let asked : scripted (begun_of old) (items_of old) step ≡ Some action =
@@ -42,14 +43,15 @@ kept_run old new n step input action kept order gives left begun grown = record 
       (agrees_more (scripted (begun_of old)) [] (items_of old) n step input action (kept.agrees g.0) asked));
   is_left = λ whole.
       let g = grown whole in
-      subst (λ (l : List Body). IsLeft (left_of new.order.items) l (items_of new)) (sym begun)
-      (subst (λ (xs : List Item). IsLeft (left_of new.order.items) (begun_of old) xs) (sym g.1)
-      (left_twice (left_of new.order.items) (left_of old.order.items) (begun_of old) (items_of old) (Run n step input action ∷ []) left (kept.is_left g.0)));
+      subst (λ (bs : List BodyCase). IsLeft (left_of bs new.order.items) (begun_of new) (items_of new)) (sym script)
+      (subst (λ (l : List Body). IsLeft (left_of (bodies_in old) new.order.items) l (items_of new)) (sym begun)
+      (subst (λ (xs : List Item). IsLeft (left_of (bodies_in old) new.order.items) (begun_of old) xs) (sym g.1)
+      (left_twice (left_of (bodies_in old) new.order.items) (left_of (bodies_in old) old.order.items) (begun_of old) (items_of old) (Run n step input action ∷ []) left (kept.is_left g.0))));
 }
 
-pub kept_freed : (old new : Kept) (n : ℕ) → IsKept old → new.order.items ≡ old.order.items → begun_of new ≡ begun_of old → Grows old new (Free n) → IsKept new
-kept_freed old new n kept order begun grown = record {
-  in_order = subst InOrder (sym order) kept.in_order;
+pub kept_freed : (old new : Kept) (n : ℕ) → IsKept old → bodies_in new ≡ bodies_in old → new.order.items ≡ old.order.items → begun_of new ≡ begun_of old → Grows old new (Free n) → IsKept new
+kept_freed old new n kept script order begun grown = record {
+  in_order = subst (λ (bs : List BodyCase). InOrder bs new.order.items) (sym script) (subst (InOrder (bodies_in old)) (sym order) kept.in_order);
   agrees = λ whole.
       let g = grown whole in
       subst (λ (l : List Body). Agrees (scripted l) [] (items_of new)) (sym begun)
@@ -57,10 +59,12 @@ kept_freed old new n kept order begun grown = record {
       (agrees_freed (scripted (begun_of old)) [] (items_of old) n (kept.agrees g.0)));
   is_left = λ whole.
       let g = grown whole in
-      subst (λ (es : List Entry). IsLeft (left_of es) (begun_of new) (items_of new)) (sym order)
-      (subst (λ (l : List Body). IsLeft (left_of old.order.items) l (items_of new)) (sym begun)
-      (subst (λ (xs : List Item). IsLeft (left_of old.order.items) (begun_of old) xs) (sym g.1)
-      (left_twice (left_of old.order.items) (left_of old.order.items) (begun_of old) (items_of old) (Free n ∷ []) (left_freed (left_of old.order.items) n) (kept.is_left g.0))));
+      let was : List Body = left_of (bodies_in old) old.order.items in
+      subst (λ (bs : List BodyCase). IsLeft (left_of bs new.order.items) (begun_of new) (items_of new)) (sym script)
+      (subst (λ (es : List Entry). IsLeft (left_of (bodies_in old) es) (begun_of new) (items_of new)) (sym order)
+      (subst (λ (l : List Body). IsLeft was l (items_of new)) (sym begun)
+      (subst (λ (xs : List Item). IsLeft was (begun_of old) xs) (sym g.1)
+      (left_twice was was (begun_of old) (items_of old) (Free n ∷ []) (left_freed was n) (kept.is_left g.0)))));
 }
 
 pub drained : (whole : Bool) (left now after : List Body) (items rest : List Item) (old new : List ℕ) → whole ≡ true → after ≡ now → rest ≡ []

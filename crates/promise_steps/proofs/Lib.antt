@@ -3,3 +3,4 @@ pub mod Keeping
 pub mod Lefts
 pub mod Orders
 pub mod Sorting
+pub mod Printing

@@ -3,18 +3,23 @@ use Rattle.std.specs.Prelude.{◌≡◌, List, [], ◌∷◌, ◌++◌, IsTrue, 
 use Rattle.kj_base.specs.Record.{Item}
 use Rattle.kj_model.specs.Log.{Body, scripted}
 use Rattle.promise_commands.specs.Answers.{Agrees}
+use Rattle.promise_commands.specs.Script.{Body as BodyCase}
 use Rattle.promise_steps.specs.Order.{InOrder, left_of, IsLeft}
 use Rattle.promise_steps.specs.Items.{item_of}
 use Rattle.promise_steps.specs.Following.{since}
 use Rattle.promise_steps.specs.declared.kept.Kept.{Kept}
 
+-- the bodies of the script
+abbrev pub bodies_in : Kept → List BodyCase
+bodies_in kept = kept.script.now.bodies
+
 -- the bodies that were still to come at the last printing
 abbrev pub begun_of : Kept → List Body
-begun_of kept = left_of kept.began.value.items
+begun_of kept = left_of (bodies_in kept) kept.began.value.items
 
 -- what was told since then
 abbrev pub items_of : Kept → List Item
-items_of kept = map item_of kept.items.items
+items_of kept = map (item_of (bodies_in kept)) kept.items.items
 
 -- a record, where all of it was kept
 abbrev pub told_if : Bool → List Item → Option (List Item)
@@ -31,6 +36,6 @@ Grows old new item = IsTrue new.whole → IsTrue old.whole × (items_of new ≡ 
 
 -- the bodies are in order, and where all was kept, the runs had the bodies of the last printing, and those still to come are left of them
 pub record IsKept (kept : Kept) : Type 0 where
-  pub in_order : InOrder kept.order.items
+  pub in_order : InOrder (bodies_in kept) kept.order.items
   pub agrees : kept.whole ≡ true → Agrees (scripted (begun_of kept)) [] (items_of kept)
-  pub is_left : kept.whole ≡ true → IsLeft (left_of kept.order.items) (begun_of kept) (items_of kept)
+  pub is_left : kept.whole ≡ true → IsLeft (left_of (bodies_in kept) kept.order.items) (begun_of kept) (items_of kept)

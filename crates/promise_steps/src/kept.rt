@@ -1,9 +1,10 @@
 //! What the steps of a script keep.
-ghost use Rattle.std.specs.Prelude.{◌≡◌, [], ◌∷◌, ◌++◌, map, IfOk, OnOk, IsTrue};
+ghost use Rattle.std.specs.Prelude.{◌≡◌, [], ◌∷◌, ◌++◌, List, None, map, IfOk, OnOk, IsTrue};
 ghost use Rattle.kj_base.specs.Record.{Tells, Run, Free};
-ghost use Rattle.kj_model.specs.Log.{Told as ToldLine};
+ghost use Rattle.kj_model.specs.Log.{passing as passing_action, Told as ToldLine};
 ghost use Rattle.kj_model.specs.Text.{log_text};
 ghost use Rattle.promise_commands.specs.Commands.{action_of};
+ghost use Rattle.promise_commands.specs.Script.{Body};
 ghost use Rattle.promise_commands.specs.Scripts.{body_of};
 ghost use Rattle.promise_steps.specs.Items.{item_of};
 ghost use Rattle.promise_steps.specs.Order.{given_of};
@@ -13,74 +14,117 @@ ghost use Rattle.promise_steps.specs.Kept.{told_by, begun_of, Grows, IsKept};
 use crate::order::{Entry, order_of, take_next};
 use crate::told::{Told, print_told};
 use kj_base::{Bytes, Ending, NoMemory, NodeId, Outcome, StepId};
-use promise_commands::{Action, Bodies, Body, Commands};
+use promise_commands::{Action, Commands};
+use promise_script::Script;
 use std::alloc::Global;
 use std::snapshot::Snapshot;
 
-/// What contracts see of the steps of a script: the bodies in order, how they stood at the last printing, and what was
-/// told since; `whole` is false once there was no room to keep something.
+/// What contracts see of the steps of a script: the script, its bodies in order, how they stood at the last printing,
+/// and what was told since; `whole` is false once there was no memory to keep something or to read a body.
 #[derive(Drop)]
 pub struct Kept<'a> {
-    pub order: Vec<Entry<'a>>,
-    pub began: Snapshot<Vec<Entry<'a>>>,
-    pub items: Vec<Told<'a>>,
+    pub script: &'a Script<'a>,
+    pub order: Vec<Entry>,
+    pub began: Snapshot<Vec<Entry>>,
+    pub items: Vec<Told>,
     pub whole: bool,
+    pub alloc: Global,
 }
 
-pub(crate) fn begin<'a>(alloc: Global, bodies: &'a Bodies) -> Result<Kept<'a>, NoMemory>
+pub(crate) fn begin<'a>(alloc: Global, script: &'a Script<'a>) -> Result<Kept<'a>, NoMemory>
     ensures kept { IfOk result IsKept }
-    ensures follows { IfOk result (λ kept. Follows (map body_of bodies.now) [] (told_by kept)) }
+    ensures follows { IfOk result
+        (λ kept. Follows (map body_of script.now.bodies) [] (told_by kept)) }
 {
-    let order = order_of(alloc, bodies.as_slice())?;
+    let order = order_of(alloc, script)?;
     let began = Snapshot::of(&order);
     Ok(Kept {
+        script,
         order,
         began,
         items: Vec::new(alloc),
         whole: true,
+        alloc,
     })
 }
 
-// The action of a body, or the input where there is none.
-fn action_given(body: Option<&Body>) -> Action
-    ensures { action_of result ≡ given_of body.entry }
+// No commands, and the input.
+fn passing() -> Action
+    ensures { action_of result ≡ passing_action }
 {
-    match body {
-        Some(body) => body.action.copy(),
-        None => Action {
-            commands: Commands::new(),
-            ending: Ending::Input,
-        },
+    Action {
+        commands: Commands::new(),
+        ending: Ending::Input,
+    }
+}
+
+// The action of a body, or the input where there is none.
+fn action_given(alloc: Global, script: &Script, which: Option<u32>) -> Result<Action, NoMemory>
+    ensures { IfOk result (λ action. action_of action ≡ given_of script.now.bodies which) }
+{
+    match which {
+        Some(which) => script.action(alloc, which),
+        None => Ok(passing()),
     }
 }
 
 // Tells one more item; silent from then on where there is no room.
-fn keep<'a>(kept: &mut Kept<'a>, item: Told<'a>)
+fn keep(kept: &mut Kept, item: Told)
+    ensures script { kept.new.script ≡ kept.old.script }
     ensures order { kept.new.order.items ≡ kept.old.order.items }
     ensures begun { begun_of kept.new ≡ begun_of kept.old }
-    ensures told { Grows kept.old kept.new (item_of item.entry) }
+    ensures told { Grows kept.old kept.new (item_of kept.old.script.now.bodies item) }
 {
     let pushed = kept.items.push(item).is_ok();
     kept.whole = kept.whole & pushed;
 }
 
-pub(crate) fn run<'a>(kept: &mut Kept<'a>, node: NodeId, step: StepId, input: &Outcome) -> Action
+// Falls silent: what was told isn't all that was done.
+fn silence(kept: &mut Kept)
     requires { IsKept kept.old }
     ensures kept { IsKept kept.new }
-    ensures told { Tells (told_by kept.old) (Run node.0 step.0 input.now (action_of result) ∷ [])
+    ensures silent { told_by kept.new ≡ None }
+{
+    kept.whole = false;
+}
+
+// The next body of the step, which is kept in what is told.
+fn tell_run(kept: &mut Kept, node: NodeId, step: StepId, input: &Outcome) -> Option<u32>
+    requires { IsKept kept.old }
+    ensures kept { IsKept kept.new }
+    ensures script { kept.new.script ≡ kept.old.script }
+    ensures told { Tells (told_by kept.old)
+        (Run node.0 step.0 input.now (given_of kept.old.script.now.bodies result) ∷ [])
         (told_by kept.new) }
 {
-    let body = take_next(&mut kept.order, step);
+    let which = take_next(kept.script, &mut kept.order, step);
     keep(
         kept,
         Told::Ran {
             node,
             step,
             input: input.copy(),
-            body,
+            which,
         },
     );
-    action_given(body)
+    which
+}
+
+/// The action of the next run of the step; silent from then on where there is no memory to read it.
+pub(crate) fn run(kept: &mut Kept, node: NodeId, step: StepId, input: &Outcome) -> Action
+    requires { IsKept kept.old }
+    ensures kept { IsKept kept.new }
+    ensures told { Tells (told_by kept.old) (Run node.0 step.0 input.now (action_of result) ∷ [])
+        (told_by kept.new) }
+{
+    let which = tell_run(kept, node, step, input);
+    match action_given(kept.alloc, kept.script, which) {
+        Ok(action) => action,
+        Err(NoMemory) => {
+            silence(kept);
+            passing()
+        }
+    }
 }
 
 pub(crate) fn freed(kept: &mut Kept, node: NodeId)
@@ -93,7 +137,8 @@ pub(crate) fn freed(kept: &mut Kept, node: NodeId)
 
 // The lines of these items, one after another.
 fn print_all(text: &mut Bytes, items: &Vec<Told>) -> Result<(), NoMemory>
-    ensures { OnOk result (text.new ≡ text.old ++ log_text (map ToldLine (map item_of items.now.items))) }
+    ensures { OnOk result ((bodies : List Body)
+        → text.new ≡ text.old ++ log_text (map ToldLine (map (item_of bodies) items.now.items))) }
 {
     for item in items.as_slice() {
         print_told(text, item)?;

@@ -6,12 +6,14 @@ ghost use Rattle.promise_steps.specs.Kept.{told_by};
 
 use crate::kept::{Kept, begin, drain_into, freed, run};
 use kj_base::{Bytes, NoMemory, NodeId, Outcome, StepId};
-use promise_commands::{Action, Bodies, Steps};
+use promise_commands::{Action, Steps};
+use promise_script::Script;
 use std::alloc::Global;
 use std::marker::Model;
 
-/// The steps of a script. Each run gives a body of its step, the first run the first; runs after the last body give the
-/// last. A step without a body gives no commands and its input. What was told is kept until it is printed.
+/// The steps of a script. Each run gives a body of its step, read from the text of the script: the first run the first,
+/// and runs after the last body the last. A step without a body gives no commands and its input. What was told is kept
+/// until it is printed.
 #[derive(Drop)]
 pub struct ScriptSteps<'a> {
     kept: Kept<'a>,
@@ -30,11 +32,12 @@ impl<'a> Model for ScriptSteps<'a> {
 }
 
 impl<'a> ScriptSteps<'a> {
-    /// Steps with these bodies, none of which ran.
-    pub fn new(alloc: Global, bodies: &'a Bodies) -> Result<ScriptSteps<'a>, NoMemory>
-        ensures { IfOk result (λ steps. Follows (map body_of bodies.now) [] (told_by steps)) }
+    /// Steps with the bodies of this script, none of which ran.
+    pub fn new(alloc: Global, script: &'a Script<'a>) -> Result<ScriptSteps<'a>, NoMemory>
+        ensures { IfOk result
+            (λ steps. Follows (map body_of script.now.bodies) [] (told_by steps)) }
     {
-        let kept = begin(alloc, bodies)?;
+        let kept = begin(alloc, script)?;
         Ok(ScriptSteps { kept })
     }
 
@@ -51,7 +54,7 @@ impl<'a> Steps for ScriptSteps<'a> {
 
     ghost told = { λ s. told_by s };
 
-    // No run finds a lack of memory: where there is no room to tell of it, the steps fall silent.
+    // No run finds a lack of memory: where there is none to tell of it or to read its body, the steps fall silent.
     ghost lacks = { λ _. 0 };
 
     fn run(&mut self, node: NodeId, step: StepId, input: &Outcome) -> Result<Action, NoMemory> {

@@ -1,7 +1,11 @@
 //! Bodies and texts worked out by hand.
 use crate::{ScriptSteps, print_idle, print_refused};
-use kj_base::{Bytes, Ending, Exception, Kind, Name, NoMemory, NodeId, Outcome, StepId, Words};
-use promise_commands::{Action, Bodies, Body, Command, Commands, Refused, Steps};
+use itoa::Buffer;
+use kj_base::{
+    Bytes, Ending, Exception, INPUT_LIMIT, Kind, Name, NoMemory, NodeId, Outcome, StepId, Words,
+};
+use promise_commands::{Action, Refused, Steps};
+use promise_script::{Script, read};
 use std::alloc::Global;
 use std::test::Fail;
 
@@ -29,29 +33,31 @@ fn value(words: &[u64]) -> Outcome {
     Outcome::Value(value)
 }
 
-// A body that makes one promise and ends with one word.
-fn body(gives: &StepWord) -> Body {
-    let mut commands = Commands::new();
-    let _fits = commands.push(Command::Later {
-        name: Name(gives.step),
-    });
-    let mut words = Words::new();
-    let _room = words.push(gives.word);
-    Body {
-        step: StepId(gives.step),
-        action: Action {
-            commands,
-            ending: Ending::Value(words),
-        },
+// The text of bodies that make one promise each, and end with one word.
+fn bodies_text(alloc: Global, all: &[StepWord]) -> Result<Bytes, NoMemory> {
+    let mut text = Bytes::new(alloc);
+    let mut buffer = Buffer::new();
+    for one in all {
+        text.extend(b"step ")?;
+        text.extend(buffer.format(one.step).as_bytes())?;
+        text.extend(b"\n# a remark\n\nlater ")?;
+        text.extend(buffer.format(one.step).as_bytes())?;
+        text.extend(b"\nvalue ")?;
+        text.extend(buffer.format(one.word).as_bytes())?;
+        text.extend(b"\nturn\n")?;
     }
+    Ok(text)
 }
 
-fn bodies_of(alloc: Global, all: &[StepWord]) -> Result<Bodies, NoMemory> {
-    let mut bodies = Bodies::new(alloc);
-    for one in all {
-        bodies.push(body(one))?;
+// The script of a text.
+fn script_of(alloc: Global, text: &[u8]) -> Result<Script, Fail> {
+    if text.len() > INPUT_LIMIT {
+        return Err(Fail::new("the text is too long"));
     }
-    Ok(bodies)
+    match read(alloc, text) {
+        Ok(script) => Ok(script),
+        Err(_refused) => Err(Fail::new("the text is no script")),
+    }
 }
 
 // The word that an action ends with.
@@ -71,8 +77,9 @@ fn bodies_come_in_order(rt: HostRuntime) -> Result<(), Fail> {
         gives(1, 11),
         gives(1, 12),
     ];
-    let bodies = bodies_of(rt.alloc(), &all)?;
-    let mut steps = ScriptSteps::new(rt.alloc(), &bodies)?;
+    let octets = bodies_text(rt.alloc(), &all)?;
+    let script = script_of(rt.alloc(), octets.as_slice())?;
+    let mut steps = ScriptSteps::new(rt.alloc(), &script)?;
     let runs = [
         gives(1, 10),
         gives(2, 20),
@@ -99,8 +106,9 @@ fn bodies_come_in_order(rt: HostRuntime) -> Result<(), Fail> {
 
 #[test]
 fn steps_without_bodies(rt: HostRuntime) -> Result<(), Fail> {
-    let bodies = bodies_of(rt.alloc(), &[gives(1, 10), gives(4, 40)])?;
-    let mut steps = ScriptSteps::new(rt.alloc(), &bodies)?;
+    let octets = bodies_text(rt.alloc(), &[gives(1, 10), gives(4, 40)])?;
+    let script = script_of(rt.alloc(), octets.as_slice())?;
+    let mut steps = ScriptSteps::new(rt.alloc(), &script)?;
     for step in [0, 2, 3, 5, 2] {
         let action = steps.run(NodeId(1), StepId(step), &value(&[3]))?;
         assert!(rt; matches!(&action.ending, Ending::Input));
@@ -113,11 +121,13 @@ fn steps_without_bodies(rt: HostRuntime) -> Result<(), Fail> {
 
 #[test]
 fn many_bodies(rt: HostRuntime) -> Result<(), Fail> {
-    let mut bodies = Bodies::new(rt.alloc());
+    let mut all = Vec::new(rt.alloc());
     for word in 0..60_u64 {
-        bodies.push(body(&gives(5 - (word % 3) as u32, word)))?;
+        all.push(gives(5 - (word % 3) as u32, word))?;
     }
-    let mut steps = ScriptSteps::new(rt.alloc(), &bodies)?;
+    let octets = bodies_text(rt.alloc(), &all)?;
+    let script = script_of(rt.alloc(), octets.as_slice())?;
+    let mut steps = ScriptSteps::new(rt.alloc(), &script)?;
     for round in 0..20_u64 {
         for rest in 0..3_u64 {
             let action = steps.run(NodeId(1), StepId(5 - rest as u32), &value(&[]))?;
@@ -131,8 +141,8 @@ fn many_bodies(rt: HostRuntime) -> Result<(), Fail> {
 
 #[test]
 fn lines_of_what_was_told(rt: HostRuntime) -> Result<(), Fail> {
-    let bodies = bodies_of(rt.alloc(), &[gives(1, 10)])?;
-    let mut steps = ScriptSteps::new(rt.alloc(), &bodies)?;
+    let script = script_of(rt.alloc(), b"step 1\nvalue 10\n")?;
+    let mut steps = ScriptSteps::new(rt.alloc(), &script)?;
     let mut text = Bytes::new(rt.alloc());
     steps.drain_into(&mut text)?;
     assert!(rt; text.is_empty());
@@ -167,8 +177,8 @@ fn other_lines(rt: HostRuntime) -> Result<(), Fail> {
 
 #[test]
 fn kinds_of_exceptions(rt: HostRuntime) -> Result<(), Fail> {
-    let bodies = Bodies::new(rt.alloc());
-    let mut steps = ScriptSteps::new(rt.alloc(), &bodies)?;
+    let script = script_of(rt.alloc(), b"")?;
+    let mut steps = ScriptSteps::new(rt.alloc(), &script)?;
     let mut text = Bytes::new(rt.alloc());
     for kind in [
         Kind::Failed,

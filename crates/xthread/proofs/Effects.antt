@@ -13,6 +13,7 @@ use Rattle.executor_core.specs.declared.call.Call.TheVariants as call
 use Rattle.executor_core.specs.declared.call.Reply.{Reply}
 use Rattle.executor_core.specs.declared.call.Reply.TheVariants as reply
 use Rattle.executor_core.specs.Acts.{Desk, act, MayAct, running_state, IsOwn, IsRunning, NoneRuns, with_state, submitted, nexted, finished, cancelled, collected, closes}
+use Rattle.executor_core.specs.Lines.{Logged, logged}
 use Rattle.executor_core.specs.Histories.{entry, of_caller, times, is_submit, is_start, Outstanding, Unfinished, AllFinished}
 use Rattle.executor_core.proofs.Answered.{submit_ok, next_start, next_stop, finish_done, cancel_withdrawn, cancel_asked, collect_ended, close_open}
 use Rattle.executor_core.proofs.Legal.{never_started, never_submitted, started_once, starts_same, few_times, mine_last}
@@ -45,13 +46,17 @@ answered {d = d} f is did = ap (λ w. (d, f w)) (sym is) ∙ did
 pub grown : {limit limit' : ℕ} {es es' : List Entry} {old : Book} (e : Entry) → limit' ≡ limit → es' ≡ es ++ e ∷ [] → book limit es ≡ old → book limit' es' ≡ book old.limit (old.entries ++ e ∷ [])
 grown {limit = limit} {es' = es'} e same longer is = ap (λ n. book n es') same ∙ ap (book limit) longer ∙ ap (λ (x : Book). book x.limit (x.entries ++ e ∷ [])) is
 
+-- what a log has, and its room
+pub noted : {es : List Entry} {room : ℕ} {a : Logged} → a ≡ logged es room → a.entries ≡ es
+noted is = ap (λ (l : Logged). l.entries) is
+
+pub room_kept : {es : List Entry} {room : ℕ} {a : Logged} → a ≡ logged es room → a.room ≡ room
+room_kept is = ap (λ (l : Logged). l.room) is
+
 -- the caller asked for the end of a request that stays its own
 pub asked_own : {limit : ℕ} {es es' : List Entry} {old : Book} (k r : ℕ) → book limit es ≡ old → Outstanding (of_caller k old.entries) r → es' ≡ es ++ entry k (call.Cancel r) reply.Asked ∷ [] → Outstanding (of_caller k es') r
 asked_own {es = es} k r is u longer = subst (λ (l : List Entry). Outstanding (of_caller k l) r) (sym longer)
     (still_outstanding k r es (entry k (call.Cancel r) reply.Asked) refl refl (subst (λ (x : Book). Outstanding (of_caller k x.entries) r) (sym is) u))
-
-pub collect_longer : {es' : List Entry} {o o' : Outcome} (k r : ℕ) (es : List Entry) → es' ≡ es ++ entry k (call.Collect r) (reply.Ended o') ∷ [] → o' ≡ o → es' ≡ es ++ entry k (call.Collect r) (reply.Ended o) ∷ []
-collect_longer k r es longer is = longer ∙ ap (λ (x : Outcome). es ++ entry k (call.Collect r) (reply.Ended x) ∷ []) is
 
 pub submit_own : {es' : List Entry} (es : List Entry) (k : ℕ) (step : StepId) (words : List ℕ) (r : ℕ) → es' ≡ es ++ entry k (call.Submit step words) (reply.Ticket r) ∷ [] → Outstanding (of_caller k es') r
 submit_own es k step words r longer = let e : Entry = entry k (call.Submit step words) (reply.Ticket r) in

@@ -1,5 +1,5 @@
 //! The executor.
-use crate::guarded::Guarded;
+use crate::boxed::Boxed;
 use count_lock::{CountLock, Pass};
 use kj_base::Sent;
 
@@ -9,8 +9,8 @@ pub const MAX_REQUESTS: u32 = 1_048_576;
 /// One board behind one lock.
 #[derive(Drop)]
 pub struct Executor<P: Sent, R: Send> {
-    pub(crate) lock: CountLock<Guarded<P, R>>,
+    pub(crate) lock: CountLock<Boxed<P, R>>,
 }
 
 /// A caller's pass of an executor.
-pub type ExecutorPass<P, R> = Pass<Guarded<P, R>>;
+pub type ExecutorPass<P, R> = Pass<Boxed<P, R>>;

@@ -1,12 +1,11 @@
-//! What lies behind the lock of an executor.
+//! A board with its history, and what belongs to each request.
 ghost use Rattle.std.specs.Prelude.{◌≡◌, ◌+◌, ◌<◌, ◌≤◌, ◌≢◌, ℕ, [], ◌∷◌, ◌++◌, length, true, false, List, cond, slice_get, IfOk, IfErr, IfSome, IfNone};
 ghost use Rattle.std.specs.Bool.{OnTrue, OnFalse};
 ghost use Rattle.executor_core.specs.declared.call.Call.TheVariants.{Submit, Next, Finish, Cancel, Collect, Close};
 ghost use Rattle.executor_core.specs.declared.call.Reply.TheVariants.{Done};
+ghost use Rattle.executor_core.specs.declared.call.Reply.TheVariants as reply;
 ghost use Rattle.executor_core.specs.declared.entry.Entry.{Entry};
 ghost use Rattle.executor_core.specs.Acts.{act, refusal_reply};
-ghost use Rattle.executor_core.specs.Ends.{end_of};
-ghost use Rattle.executor_core.proofs.Ends.{end_stays, end_within, end_fresh};
 ghost use Rattle.executor_core.specs.Histories.{entry, board_of, of_caller, times, is_submit, waits, Outstanding, Unfinished, AllFinished, Legal};
 ghost use Rattle.xthread.specs.Stock.{Book, book, Grown, Sound};
 ghost use Rattle.xthread.specs.Answers.{request, board, Unchanged, NextTells, CancelTells, CollectTells};
@@ -16,17 +15,16 @@ use crate::executor::MAX_REQUESTS;
 use crate::place::Place;
 use crate::stock::{take_back, take_payload};
 use crate::ticket::Ticket;
-use count_lock::Kept;
-use executor_core::{Board, Call, Cancelling, Chosen, Entries, Entry, NotTaken, Reply};
+use executor_core::{Board, Cancelling, Chosen, Entries, Log, NotTaken};
 use kj_base::{NoMemory, Outcome, Sent, StepId, Words};
 use std::alloc::Global;
 use std::marker::Model;
 
-/// A board, its history, and what belongs to each request. Contracts see the limit and the history.
+// Contracts see the limit and the history.
 #[derive(Drop)]
-pub struct Guarded<P: Sent, R: Send> {
-    board: Board,
-    log: Vec<Entry>,
+pub(crate) struct Guarded<P: Sent, R: Send> {
+    pub(crate) board: Board,
+    log: Log,
     places: Vec<Place<P, R>>,
 }
 
@@ -36,28 +34,9 @@ impl<P: Sent, R: Send> Model for Guarded<P, R> {
 
     ghost Value = { Book };
 
-    ghost view = { λ g. book g.board.limit g.log.items };
+    ghost view = { λ g. book g.board.limit g.log.entries };
 
-    ghost invariant = { λ g. Whole P.fits g.board g.log.items (vec_capacity g.log) g.places.items (vec_capacity g.places) };
-}
-
-impl<P: Sent, R: Send> Kept for Guarded<P, R> {
-    type Entry = Entry;
-
-    ghost entries = { λ g. g.entries };
-
-    ghost by = { λ e. e.caller };
-
-    ghost constant = { λ g. g.limit };
-
-    // The place of the finish, the withdrawal or the closing that ends the request.
-    ghost fin = { end_of };
-
-    ghost fin_laws = { record { stays = end_stays; within = end_within; fresh = end_fresh } };
-
-    fn constant(&self) -> u64 {
-        self.board.limit() as u64
-    }
+    ghost invariant = { λ g. Whole P.fits g.board g.log.entries g.log.room g.places.items (vec_capacity g.places) };
 }
 
 impl<P: Sent + Drop, R: Send + Drop> Guarded<P, R> {
@@ -66,10 +45,10 @@ impl<P: Sent + Drop, R: Send + Drop> Guarded<P, R> {
         requires { (1 ≤ requests) × (requests ≤ MAX_REQUESTS) }
         ensures { IfOk result (λ g. g ≡ book requests []) }
     {
-        let entries = 6 * requests as usize + 1;
+        let entries = 6 * requests + 1;
         Ok(Guarded {
             board: Board::new(alloc, requests)?,
-            log: Vec::with_capacity(alloc, entries)?,
+            log: Log::new(alloc, entries)?,
             places: Vec::with_capacity(alloc, requests as usize)?,
         })
     }
@@ -78,7 +57,7 @@ impl<P: Sent + Drop, R: Send + Drop> Guarded<P, R> {
         ensures entries { result ≡ self.entries }
         ensures legal { Legal self.limit result }
     {
-        Entries::from_vec(self.log)
+        Entries::from_log(self.log)
     }
 
     // How many requests were submitted.
@@ -115,7 +94,7 @@ impl<P: Sent + Drop, R: Send + Drop> Guarded<P, R> {
         requires { P.fits payload step.0 words }
         ensures sound { Sound self.new }
         ensures grown { IfOk result
-            (λ r. Grown self.old self.new (entry caller (Submit step words) (Reply.Ticket r))) }
+            (λ r. Grown self.old self.new (entry caller (Submit step words) (reply.Ticket r))) }
         ensures own { IfOk result (λ r. Outstanding (of_caller caller self.new.entries) r) }
         ensures fresh { IfOk result (λ r. times (is_submit r) (of_caller caller self.old.entries)
             ≡ 0) }
@@ -125,11 +104,7 @@ impl<P: Sent + Drop, R: Send + Drop> Guarded<P, R> {
     {
         match self.board.submit(caller, step, words.copy()) {
             Ok(request) => {
-                self.log.push_reserved(Entry {
-                    caller,
-                    call: Call::Submit { step, words },
-                    reply: Reply::Ticket(request),
-                });
+                self.log.submit(caller, request, step, &words);
                 self.places.push_reserved(Place::Waiting(payload));
                 Ok(request)
             }
@@ -149,23 +124,11 @@ impl<P: Sent + Drop, R: Send + Drop> Guarded<P, R> {
                 words,
             } => {
                 let payload = take_payload(&mut self.places, request);
-                self.log.push_reserved(Entry {
-                    caller: 0,
-                    call: Call::Next,
-                    reply: Reply::Start {
-                        request,
-                        step,
-                        words: words.copy(),
-                    },
-                });
+                self.log.start(request, step, &words);
                 Next::Start(request, step, words, payload)
             }
             Chosen::Stop(request) => {
-                self.log.push_reserved(Entry {
-                    caller: 0,
-                    call: Call::Next,
-                    reply: Reply::Stop(request),
-                });
+                self.log.stop(request);
                 Next::Stop(request)
             }
             Chosen::Empty => Next::Empty,
@@ -177,13 +140,9 @@ impl<P: Sent + Drop, R: Send + Drop> Guarded<P, R> {
         ensures sound { Sound self.new }
         ensures told { Grown self.old self.new (entry 0 (Finish request outcome) Done) }
     {
-        self.board.finish(request, outcome.copy());
+        self.log.finish(request, &outcome);
         self.places[request as usize] = Place::Finished(given);
-        self.log.push_reserved(Entry {
-            caller: 0,
-            call: Call::Finish { request, outcome },
-            reply: Reply::Done,
-        });
+        self.board.finish(request, outcome);
     }
 
     pub(crate) fn cancel(&mut self, caller: u32, ticket: Ticket) -> Cancelled<P>
@@ -198,19 +157,11 @@ impl<P: Sent + Drop, R: Send + Drop> Guarded<P, R> {
         match self.board.cancel(request) {
             Cancelling::Withdrawn => {
                 let payload = take_payload(&mut self.places, request);
-                self.log.push_reserved(Entry {
-                    caller,
-                    call: Call::Cancel { request },
-                    reply: Reply::Withdrawn,
-                });
+                self.log.withdraw(caller, request);
                 Cancelled::Withdrawn(payload)
             }
             Cancelling::Asked => {
-                self.log.push_reserved(Entry {
-                    caller,
-                    call: Call::Cancel { request },
-                    reply: Reply::Asked,
-                });
+                self.log.ask(caller, request);
                 Cancelled::Asked(Ticket { request, owner })
             }
             Cancelling::TooLate => Cancelled::TooLate(Ticket { request, owner }),
@@ -229,11 +180,7 @@ impl<P: Sent + Drop, R: Send + Drop> Guarded<P, R> {
         match self.board.collect(request) {
             Some(outcome) => {
                 let back = take_back(&mut self.places, request);
-                self.log.push_reserved(Entry {
-                    caller,
-                    call: Call::Collect { request },
-                    reply: Reply::Ended(outcome.copy()),
-                });
+                self.log.collect(caller, request, &outcome);
                 Collected::Ended(outcome, back)
             }
             None => Collected::NotYet(Ticket { request, owner }),
@@ -251,11 +198,7 @@ impl<P: Sent + Drop, R: Send + Drop> Guarded<P, R> {
         if !self.board.close() {
             return false;
         }
-        self.log.push_reserved(Entry {
-            caller: 0,
-            call: Call::Close,
-            reply: Reply::Done,
-        });
+        self.log.close();
         true
     }
 }

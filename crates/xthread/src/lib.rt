@@ -5,6 +5,7 @@
 #![tactic(auto)]
 
 mod answers;
+mod boxed;
 mod calls;
 mod executor;
 mod guarded;
@@ -16,6 +17,6 @@ mod ticket;
 mod turns;
 
 pub use answers::{Back, Cancelled, Collected, Next};
+pub use boxed::Boxed;
 pub use executor::{Executor, ExecutorPass, MAX_REQUESTS};
-pub use guarded::Guarded;
 pub use ticket::Ticket;

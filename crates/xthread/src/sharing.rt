@@ -5,8 +5,8 @@ ghost use Rattle.count_lock.specs.Rule.{StartsWith, longer, of, Made};
 ghost use Rattle.executor_core.specs.Histories.{Legal, board_of, AllSpent, Settled};
 ghost use Rattle.xthread.specs.Told.{caller_of, IsReady};
 
+use crate::boxed::Boxed;
 use crate::executor::{Executor, ExecutorPass, MAX_REQUESTS};
-use crate::guarded::Guarded;
 use count_lock::{CountLock, SplitRefused};
 use executor_core::Entries;
 use kj_base::{NoMemory, Sent};
@@ -26,10 +26,10 @@ impl<P: Sent + Drop, R: Send + Drop> Executor<P, R> {
             × IsUnsplit r.1) }
         ensures empty { IfOk result (λ r. (seen r.1 ≡ []) × (mine r.1 ≡ []) × (kin r.1 ≡ [])) }
     {
-        let guarded = Guarded::new(alloc, requests)?;
-        match CountLock::new(alloc, guarded, requests) {
+        let boxed = Boxed::new(alloc, requests)?;
+        match CountLock::new(alloc, boxed, requests) {
             Ok((lock, pass)) => Ok((Executor { lock }, pass)),
-            Err((error, _guarded)) => Err(error),
+            Err((error, _boxed)) => Err(error),
         }
     }
 

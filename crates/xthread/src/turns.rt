@@ -8,8 +8,8 @@ ghost use Rattle.executor_core.specs.Histories.{entry, ends_by, Legal};
 ghost use Rattle.xthread.specs.Told.{IsReady};
 ghost use Rattle.xthread.specs.Turns.{Taken, Noted, Left};
 
+use crate::boxed::Boxed;
 use crate::executor::{Executor, ExecutorPass};
-use crate::guarded::Guarded;
 use count_lock::Held;
 use executor_core::{Call, Entry, Reply};
 use kj_base::Sent;
@@ -17,7 +17,7 @@ use std::sync::Wait;
 
 impl<P: Sent + Drop, R: Send + Drop> Executor<P, R> {
     // Waits for its turn.
-    pub(crate) fn take<W: Wait>(&self, rt: &W, pass: &mut ExecutorPass<P, R>) -> Held<Guarded<P, R>>
+    pub(crate) fn take<W: Wait>(&self, rt: &W, pass: &mut ExecutorPass<P, R>) -> Held<Boxed<P, R>>
         requires { IsReady self.now.lock pass.old }
         ensures { Taken self.now.lock pass.old pass.new result.value }
     {
@@ -25,12 +25,7 @@ impl<P: Sent + Drop, R: Send + Drop> Executor<P, R> {
     }
 
     // Ends the turn with an entry more, which ends no request.
-    pub(crate) fn note(
-        &self,
-        held: Held<Guarded<P, R>>,
-        pass: &mut ExecutorPass<P, R>,
-        entry: Entry,
-    )
+    pub(crate) fn note(&self, held: Held<Boxed<P, R>>, pass: &mut ExecutorPass<P, R>, entry: Entry)
         requires lock { IsPassOf self.now.lock pass.old × HasTurn pass.old }
         requires value { (held.value.entries ≡ seen pass.old ++ entry ∷ [])
             × (held.value.limit ≡ constant pass.old) }
@@ -44,7 +39,7 @@ impl<P: Sent + Drop, R: Send + Drop> Executor<P, R> {
     // Ends the turn with an entry more, which ends this request alone.
     pub(crate) fn note_end(
         &self,
-        held: Held<Guarded<P, R>>,
+        held: Held<Boxed<P, R>>,
         pass: &mut ExecutorPass<P, R>,
         entry: Entry,
         request: u32,
@@ -66,7 +61,7 @@ impl<P: Sent + Drop, R: Send + Drop> Executor<P, R> {
     }
 
     // Ends the turn with the closing, which ends each request that waits for its start.
-    pub(crate) fn note_close(&self, held: Held<Guarded<P, R>>, pass: &mut ExecutorPass<P, R>)
+    pub(crate) fn note_close(&self, held: Held<Boxed<P, R>>, pass: &mut ExecutorPass<P, R>)
         requires lock { IsPassOf self.now.lock pass.old × HasTurn pass.old
             × (words_of self.now.lock ≡ constant pass.old) }
         requires value { (held.value.entries ≡ seen pass.old ++ entry 0 Close Done ∷ [])
@@ -91,7 +86,7 @@ impl<P: Sent + Drop, R: Send + Drop> Executor<P, R> {
     }
 
     // Ends the turn with nothing changed.
-    pub(crate) fn leave(&self, held: Held<Guarded<P, R>>, pass: &mut ExecutorPass<P, R>)
+    pub(crate) fn leave(&self, held: Held<Boxed<P, R>>, pass: &mut ExecutorPass<P, R>)
         requires lock { IsPassOf self.now.lock pass.old × HasTurn pass.old }
         requires value { (held.value.entries ≡ seen pass.old)
             × (held.value.limit ≡ constant pass.old) }

@@ -60,6 +60,13 @@ fn lines_with(alloc: Global, log: &[u8], word: &[u8]) -> Result<Bytes, NoMemory>
     Ok(lines)
 }
 
+// How many lines begin with this word.
+fn count_with(log: &[u8], word: &[u8]) -> usize {
+    log.split(|octet| *octet == b'\n')
+        .filter(|line| line.starts_with(word))
+        .count()
+}
+
 #[test]
 fn whole_logs(rt: HostRuntime) -> Result<(), Fail> {
     let alloc = rt.alloc();
@@ -91,16 +98,8 @@ fn promise_loop(rt: HostRuntime) -> Result<(), Fail> {
     let text = log.written.as_slice();
     assert!(&rt; text.starts_with(b"free 1\nrun 2 1 value\nfree 2\nfree 3\n"));
     assert!(&rt; text.ends_with(b"free 300002\nfree 300003\nfree 300004\nfree 4\n"));
-    let mut runs = 0;
-    let mut frees = 0;
-    for line in text.split(|octet| *octet == b'\n') {
-        if line.starts_with(b"run ") {
-            runs += 1;
-        }
-        if line.starts_with(b"free ") {
-            frees += 1;
-        }
-    }
+    let runs = count_with(text, b"run ");
+    let frees = count_with(text, b"free ");
     assert_eq!(&rt; (runs, frees), (100_000, 300_004));
     Ok(())
 }

@@ -16,7 +16,7 @@ pub const TWO_LOG: &[u8] =
     b"free 1\nrun 2 10 value\nfree 2\nfree 3\nfree 4\nrun 5 11 value\nfree 5\nfree 6\n";
 
 // Octets, the status of `run` on them, and what it writes.
-const SCRIPTS: [(&[u8], u8, &[u8]); 21] = [
+const SCRIPTS: [(&[u8], u8, &[u8]); 22] = [
     (b"", 0, b""),
     (
         b"later 1\nthen 2 1 10 -\ndetach 2\nturn\n",
@@ -91,6 +91,13 @@ const SCRIPTS: [(&[u8], u8, &[u8]); 21] = [
         b"step 7\nvalue 1 2\nstep 7\nthrow overloaded 3\nlater 1\nthen 2 1 7 -\ndetach 2\nlater 3\nthen 4 3 7 8\nthen 5 4 - 8\ndetach 5\nrun 2\n",
         0,
         b"free 1\nrun 2 7 value\nfree 2\nfree 3\nfree 4\nrun 5 7 value\nfree 5\nrun 6 8 throw overloaded 3\nfree 6\nfree 7\n",
+    ),
+    // A body behind the turn that runs it, between lines whose numbers count its own; and a last line that ends with the
+    // input.
+    (
+        b"later 1\nthen 2 1 7 -\ndetach 2\nturn\nstep 7\n# x\nlater 9\n\nvalue 4\nlater 9\nturn",
+        0,
+        b"free 1\nrun 2 7 value\nfree 2\nfree 3\nrefused 10 taken 9\nidle\nfree 4\n",
     ),
     (b"later 1\nlater 01\n", 1, b"bad line 2\n"),
     (b"later 1\r\n", 1, b"bad line 1\n"),

@@ -1,5 +1,5 @@
 -- The lines so far lead to this log, and the others are left.
-use Rattle.std.proofs.Common.{◌≡◌, drop, map}
+use Rattle.std.proofs.Common.{◌≡◌, length, map}
 use Rattle.kj_model.specs.Log.{Logged, limits_or, log_lines, new_log, setting_of}
 use Rattle.kj_model.specs.Places.{table_fits}
 use Rattle.loop_core.specs.Loops.{StandsAt}
@@ -11,9 +11,12 @@ use Rattle.promise_steps.specs.Kept.{told_by}
 use Rattle.kj_script.specs.Running.{Shows}
 use Rattle.kj_script.proofs.run.run_script.Given as goal
 
-abbrev pub invariant-loop-line : goal.invariant-loop-line
-invariant-loop-line l =
+abbrev pub invariant-loop-text : goal.invariant-loop-text
+invariant-loop-text l =
     (now : Logged)
-    × Shows (map body_of l.script.bodies) (StandsAt table_fits (StandsFor (node_of l.over.nodes.store) l.over.nodes.queue.events (TableStands l.over.nodes.store) l.over.nodes.marks) (NamesStand l.over.names)) (told_by l.steps) l.text now
-    × (log_lines (setting_of table_fits (map body_of l.script.bodies)) (map numbered_of l.line-items) (new_log (limits_or l.script.limits))
-    ≡ log_lines (setting_of table_fits (map body_of l.script.bodies)) (drop l.line-index (map numbered_of l.line-items)) now)
+    × Shows (map body_of l.fn.script.bodies) (StandsAt table_fits (StandsFor (node_of l.over.nodes.store) l.over.nodes.queue.events (TableStands l.over.nodes.store) l.over.nodes.marks) (NamesStand l.over.names)) (told_by l.steps) l.text now
+    × (log_lines (setting_of table_fits (map body_of l.fn.script.bodies)) (map numbered_of l.fn.script.lines) (new_log (limits_or l.fn.script.limits))
+    ≡ log_lines (setting_of table_fits (map body_of l.fn.script.bodies)) (map numbered_of l.left) now)
+
+abbrev pub decreases-loop-text : goal.decreases-loop-text
+decreases-loop-text l = length l.left
