@@ -5,7 +5,7 @@ mod entries;
 pub mod left_over;
 mod table;
 
-pub use entries::{held_after, Entry};
+pub use entries::{Entry, held_after};
 pub use table::NameTable;
 
 #[cfg(test)]
