@@ -73,7 +73,7 @@ fn new_loop(alloc: Global, limits: Limits) -> Result<BenchLoop, NoMemory>
 pub(crate) fn slots_each(round: Round) -> u32 {
     match round {
         Round::Events | Round::Batches | Round::Branches => 3,
-        Round::Turns => 7,
+        Round::Turns => 6,
         Round::Joins => 19,
         Round::Races => 8,
     }
