@@ -2,8 +2,9 @@
 # bench/loop.sh [KJBENCH]   prints what promises take on a loop alone, with the proved program: nanoseconds of the
 # thread's own time for a unit, the best of five, and octets of memory that the loop reserves for a live unit. KJBENCH is
 # a program that does the same rounds a to e with KJ and prints lines 'a NAME .. NUMBER ns/UNIT .. NUMBER B/live ..', as
-# KJ's own micro-benchmarks do; where it is given, its figures stand behind, from the same sitting. The last rows are
-# promises with a continuation each in a task, so many of them live at once, from 1,000 nodes up to 3,000,000.
+# KJ's own micro-benchmarks do; where it is given, its figures stand behind, from the same sitting. Behind them stand
+# promises with a continuation each in a task, so many of them live at once, from 1,000 nodes up to 3,000,000; and hubs
+# with 1,000 branches each, so many of them in one loop: no command drops a hub's name yet, so they pile up.
 # Where KJ's rounds wait for a promise, a step of a task sees its outcome here; where they cancel, the loser goes with
 # its race; and KJ's leaf runs a function of its own, and ours none. Where other work keeps the processors busy, both
 # programs' figures are worse: the load stands at the head and the foot.
@@ -57,10 +58,13 @@ printf '%-14s %8s %10s %10s %10s %10s\n' rounds count ns/unit octets KJ_ns/unit 
 row events 1000000 a
 row event-batches 1000 "a'"
 row promise-loop 1000000 b
-row branches 1000 c
+row branches 1 c
 row joins-of-8 100000 d
 row races 1000000 e
 for count in 333 3333 33333 166667 1000000; do
   row events "$count"
+done
+for count in 10 100 1000; do
+  row branches "$count"
 done
 cat /proc/loadavg
