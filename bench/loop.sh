@@ -19,7 +19,8 @@ reserved() {
   "$program" "$@" > /dev/null &
   process=$!
   while now=$(awk '/^VmPeak/ { print $2 }' "/proc/$process/status" 2> /dev/null); do
-    peak=${now:-$peak}
+    [ -n "$now" ] || break
+    peak=$now
     sleep 0.01
   done
   wait "$process"
