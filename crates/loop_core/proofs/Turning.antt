@@ -9,7 +9,7 @@ use Rattle.kj_model.specs.World.{World, State, Setting}
 use Rattle.kj_ownership.proofs.Calls.{call_keeps, rests_of}
 use Rattle.kj_ownership.proofs.TurnLacks.{turn_told}
 use Rattle.kj_ownership.specs.Kept.{Kept}
-use Rattle.promise_apply.specs.Applying.{IsApplied}
+use Rattle.promise_apply.specs.Applying.{DoesCommand}
 use Rattle.promise_turns.specs.Acting.{Acts, IsMissing}
 use Rattle.promise_turns.specs.Turns.{MayTurn, lacked_memory, turned_as, turned_of}
 use Rattle.promise_turns.specs.declared.turned.Turned.{Turned as TurnedCase}
@@ -21,21 +21,25 @@ use Rattle.loop_core.specs.Calls.{CallIs, ComesTo}
 use Rattle.loop_core.specs.Loops.{StandsAt}
 use Rattle.loop_core.proofs.Called.{Found, call_in, call_silent, found_in, led, stands_still}
 
--- a command that nothing is told of
-pub command_called : (rule : Rule) (OldNodes OldNames NewNodes NewNames : World → Type 0) (c : Command) (refused : Option Refused) (a : Option (List Item)) (k : ℕ)
-    → ((answer : Answer) (inside : Bool) (s : State) → Both OldNodes OldNames s.world → IsApplied (Both NewNodes NewNames) s.past refused (apply (setting_of rule answer) inside c s))
-    → CallIs (StandsAt rule OldNodes OldNames) (StandsAt rule NewNodes NewNames) rule (λ setting s. apply setting false c s) (λ setting s. (s, refused)) a a k k
-command_called rule OldNodes OldNames NewNodes NewNames c refused a k applied =
-    call_silent (StandsAt rule OldNodes OldNames) (StandsAt rule NewNodes NewNames) rule (λ setting s. apply setting false c s) (λ setting s. (s, refused)) a k
-    (λ answer s old.
-    let setting : Setting = setting_of rule answer in
-    let r = applied answer false s old.stands in
-    record {
-      state = (apply setting false c s).0;
-      stands = record { takes = old.takes; stands = r.stands; kept = call_keeps setting (CallApply c) s old.takes refl tt old.kept };
-      past_is = r.past_is;
-      ends = ap (λ (o : Option Refused). ((apply setting false c s).0, o)) (sym r.reply);
-    })
+-- a command, with the frees that it tells
+pub command_called : (rule : Rule) (OldNodes OldNames NewNodes NewNames : World → Type 0) (c : Command) (refused : Option Refused) (a b : Option (List Item)) (k l : ℕ)
+    → l ≡ k → DoesCommand (Both OldNodes OldNames) (Both NewNodes NewNames) rule refused c a b
+    → CallIs (StandsAt rule OldNodes OldNames) (StandsAt rule NewNodes NewNames) rule (λ setting s. apply setting false c s) (λ setting s. (s, refused)) a b k l
+command_called rule OldNodes OldNames NewNodes NewNames c refused a b k l same done = record {
+  items = done.items;
+  missing = None;
+  told = done.told;
+  counts = λ s old. same;
+  leads = λ answer s old agrees lacking.
+      let setting : Setting = setting_of rule answer in
+      let r = done.applied answer false s old.stands in
+      record {
+        state = (apply setting false c s).0;
+        stands = record { takes = old.takes; stands = r.stands; kept = call_keeps setting (CallApply c) s old.takes refl tt old.kept };
+        past_is = r.past_is;
+        ends = ap (λ (o : Option Refused). ((apply setting false c s).0, o)) (sym r.reply);
+      };
+}
 
 -- where the answer isn't that there was no memory, none was missing
 missing_as : TurnedCase → Option ℕ → Option ℕ

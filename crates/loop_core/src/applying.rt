@@ -15,18 +15,18 @@ use promise_nodes::Nodes;
 fn apply_on<N: Nodes + Drop, M: Names + Drop, S: Steps>(
     ground: &mut Ground<N, M>,
     command: &Command,
-    _steps: &mut S,
+    steps: &mut S,
 ) -> Result<(), Refused>
     ensures applied { CallIs
         (StandsAt N.rule (N.stands ground.old.nodes) (M.stands ground.old.names))
         (StandsAt N.rule (N.stands ground.new.nodes) (M.stands ground.new.names)) N.rule
         (λ setting s. apply setting false (command_of command.now) s)
         (λ setting s. (s, refusal_of result))
-        (S.told _steps.old) (S.told _steps.new) (S.lacks _steps.old) (S.lacks _steps.new) }
+        (S.told steps.old) (S.told steps.new) (S.lacks steps.old) (S.lacks steps.new) }
     ensures slots { N.slots ground.new.nodes ≡ N.slots ground.old.nodes }
     ensures over { M.over ground.new.names ≡ M.over ground.old.names }
 {
-    ground.apply(command)
+    ground.apply(command, steps)
 }
 
 /// A command of the host, outside all steps.

@@ -46,8 +46,8 @@ impl<N: Nodes + Drop, M: Names + Drop> Model for LoopOver<N, M> {
 }
 
 impl<N: Nodes + Drop, M: Names + Drop> LoopOver<N, M> {
-    /// A command of the host, outside all steps: it is refused, and all is as before; or it has its effect. No command
-    /// that this loop knows frees a node, so `steps` are told nothing yet.
+    /// A command of the host, outside all steps: it is refused, and all is as before; or it has its effect. The steps are
+    /// told each free, in order.
     pub fn apply<S: Steps>(&mut self, command: Command, steps: &mut S) -> Result<(), Refused>
         ensures applied { CallIs
             (StandsAt N.rule (N.stands self.old.nodes) (M.stands self.old.names))

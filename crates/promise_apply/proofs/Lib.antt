@@ -7,3 +7,4 @@ pub mod Refused
 pub mod Counted
 pub mod Passed
 pub mod Several
+pub mod Told

@@ -1,8 +1,8 @@
 -- Commands against their definitions: what refuses them, and what they leave.
-use Rattle.std.specs.Prelude.{◌≡◌, ℕ, ◌+◌, ◌≤◌, ◌^◌, List, [], ◌∷◌, Option, None, Some, Bool, true, false, IsTrue, not, ◌||◌, ◌&&◌, nat_lt, length}
+use Rattle.std.specs.Prelude.{◌≡◌, ℕ, ◌+◌, ◌≤◌, ◌^◌, List, [], ◌∷◌, ◌++◌, Option, None, Some, Bool, true, false, IsTrue, not, ◌||◌, ◌&&◌, nat_lt, length}
 use Rattle.kj_base.specs.Commands.{Command, Action}
 use Rattle.kj_base.specs.Places.{Spot, Row}
-use Rattle.kj_base.specs.Record.{Item}
+use Rattle.kj_base.specs.Record.{Item, Tells}
 use Rattle.kj_model.specs.World.{World, State, Setting, Awaited}
 use Rattle.kj_model.specs.Changes.{silent}
 use Rattle.kj_model.specs.Free.{Guard}
@@ -18,15 +18,21 @@ Rule = ℕ → List Spot → List Row → Bool
 abbrev pub setting_of : Rule → (List Item → ℕ → Option Action) → Setting
 setting_of rule answer = record { fits = rule; answer = answer }
 
--- this refusal or none, a world that stands now, and nothing was run or freed
+-- this refusal or none, a world that stands now, and this record
 pub record IsApplied (New : World → Type 0) (past : List Item) (refused : Option Refused) (r : State × Option Refused) : Type 0 where
   pub reply : r.1 ≡ refused
   pub stands : New r.0.world
   pub past_is : r.0.past ≡ past
 
--- the command is applied, whatever steps answer and wherever it comes from
+-- the command is applied, whatever steps answer and wherever it comes from, and nothing was run or freed
 abbrev pub Applies : (World → Type 0) → (World → Type 0) → Rule → Option Refused → Command → Type 0
 Applies Old New rule refused c = (answer : List Item → ℕ → Option Action) (inside : Bool) (s : State) → Old s.world → IsApplied New s.past refused (apply (setting_of rule answer) inside c s)
+
+-- the same, and just these items were told
+pub record DoesCommand (Old New : World → Type 0) (rule : Rule) (refused : Option Refused) (c : Command) (told_before told_after : Option (List Item)) : Type 0 where
+  pub items : List Item
+  pub told : Tells told_before items told_after
+  pub applied : (answer : List Item → ℕ → Option Action) (inside : Bool) (s : State) → Old s.world → IsApplied New (s.past ++ items) refused (apply (setting_of rule answer) inside c s)
 
 -- the first of two causes
 abbrev pub or_else : Option Refused → Option Refused → Option Refused

@@ -1,4 +1,4 @@
-//! Commands, applied to nodes and names.
+//! Commands that free nothing, applied to nodes and names.
 ghost use Rattle.std.specs.Prelude.{◌≡◌, ◌≤◌, [], ◌∷◌, ◌++◌, ℕ, List, Option, None, Bool, length, map};
 ghost use Rattle.kj_base.specs.Commands.{Command as CommandSeen, Action, step_of};
 ghost use Rattle.kj_base.specs.declared.outcomes.Outcome.TheVariants.{Value, Broken as BrokenBy};
@@ -538,8 +538,8 @@ fn ready(value: &Words) -> Form
     }
 }
 
-/// A command has its effect, or is refused; then all is as before.
-pub fn apply<N: Nodes, M: Names>(
+/// A command that frees nothing has its effect, or is refused; then all is as before.
+pub(crate) fn apply_silent<N: Nodes, M: Names>(
     nodes: &mut N,
     names: &mut M,
     command: &Command,

@@ -10,8 +10,8 @@ mod naming;
 mod refusing;
 mod sharing;
 mod sources;
+mod telling;
 
-pub use applying::apply;
 pub use building::{Over, build_leaf, build_over, detach};
 pub use cells::{build_pair, drop_cell, settle_cell};
 pub use chaining::{build_chain, build_fork, build_listening};
@@ -19,3 +19,4 @@ pub use joining::{Joined, build_joined};
 pub use naming::{Fault, Role, Use, first_fault};
 pub use sharing::build_branch;
 pub use sources::Source;
+pub use telling::apply;

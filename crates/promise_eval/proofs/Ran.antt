@@ -1,30 +1,39 @@
 -- A run of a step, told with what it gives.
-use Rattle.std.proofs.Common.{◌≡◌, ◌∙◌, sym, ap, refl, ℕ, List, [], ◌∷◌, ◌++◌, Option, None, Some, Bool}
+use Rattle.std.proofs.Common.{◌≡◌, ◌∙◌, sym, ap, refl, ℕ, List, [], ◌∷◌, ◌++◌, Option, None, Some, Bool, append_assoc}
 use Rattle.std.proofs.lemmas.List.{append-nil}
 use Rattle.kj_base.specs.declared.outcomes.Outcome.{Outcome}
 use Rattle.kj_base.specs.Commands.{Action}
-use Rattle.kj_base.specs.Record.{Item, Run}
+use Rattle.kj_base.specs.Record.{Item, Run, Tells}
 use Rattle.kj_model.specs.World.{World, State, Setting}
 use Rattle.kj_model.specs.Changes.{silent}
-use Rattle.kj_model.specs.Value.{Given, acted, answered, run_step, with_item, with_stopped}
-use Rattle.promise_walks.specs.Values.{Rule, Answer, Goes, Lacks, gave, setting_of}
-use Rattle.promise_eval.specs.Done.{IsDone}
+use Rattle.kj_model.specs.Value.{Given, acted, answered, run_step, some_given, with_item, with_stopped}
+use Rattle.promise_walks.specs.Values.{Rule, Answer, Lacks, Walked, gave, setting_of}
+use Rattle.promise_walks.proofs.Composed.{tells_then}
+use Rattle.promise_eval.specs.Done.{Did}
+
+-- the step of an action comes before what its commands free
+run_first : (past items : List Item) (item : Item) → (past ++ item ∷ []) ++ items ≡ past ++ item ∷ items
+run_first past items item = append_assoc past (item ∷ []) items
 
 -- a step found its memory, and its action was carried out
-pub ran : (Old New : World → Type 0) (rule : Rule) (under_chain : Bool) (n step : ℕ) (input : Outcome) (action : Action) (given : Given)
-    → ((answer : Answer) (s : State) → Old s.world → IsDone New s.past given (acted (setting_of rule answer) action under_chain input s))
-    → Goes Old New rule (λ setting s. run_step setting under_chain n step input s) (gave given) (Run n step input action ∷ [])
-ran Old New rule under_chain n step input action given act answer s old agrees =
-    let setting : Setting = setting_of rule answer in
-    let t : State = with_item (Run n step input action) s in
-    let done = act answer t old in
-    let after : State = (acted setting action under_chain input t).0 in
-    record {
-      state = after;
-      stands = done.stands;
-      past_is = done.past_is;
-      ends = sym (ap (λ (a : Option Action). answered setting a under_chain n step input s) agrees.0 ∙ ap (λ (g : Given). (after, Some g)) done.answer_is);
-    }
+pub ran : (Old New : World → Type 0) (rule : Rule) (under_chain : Bool) (n step : ℕ) (input : Outcome) (action : Action) (given : Given) (a b c : Option (List Item))
+    → Tells a (Run n step input action ∷ []) b
+    → Did Old New rule (λ setting s. acted setting action under_chain input s) (λ setting s. (s, given)) b c
+    → Walked Old New rule (λ setting s. run_step setting under_chain n step input s) (gave given) a c
+ran Old New rule under_chain n step input action given a b c told act = record {
+  items = Run n step input action ∷ act.items;
+  told = tells_then a b c (Run n step input action ∷ []) act.items told act.told;
+  goes = λ answer s old agrees.
+      let setting : Setting = setting_of rule answer in
+      let t : State = with_item (Run n step input action) s in
+      let done = act.moves answer t old in
+      record {
+        state = done.state;
+        stands = done.stands;
+        past_is = done.past_is ∙ append_assoc s.past (Run n step input action ∷ []) act.items;
+        ends = ap some_given done.ends ∙ sym (ap (λ (o : Option Action). answered setting o under_chain n step input s) agrees.0);
+      };
+}
 
 -- a step found no memory, and the loop is stopped
 pub lacked : (Old New : World → Type 0) (rule : Rule) (under_chain : Bool) (n step : ℕ) (input : Outcome)

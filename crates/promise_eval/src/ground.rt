@@ -1,8 +1,7 @@
 //! What trees are evaluated on.
-ghost use Rattle.std.specs.Prelude.{◌≡◌, ◌≤◌, ℕ, Bool, IfOk, None};
+ghost use Rattle.std.specs.Prelude.{◌≡◌, ◌≤◌, ℕ, IfOk, None};
 ghost use Rattle.kj_base.specs.Queue.{head_of};
-ghost use Rattle.kj_model.specs.World.{World, State};
-ghost use Rattle.kj_model.specs.Apply.{apply};
+ghost use Rattle.kj_model.specs.World.{World};
 ghost use Rattle.kj_model.specs.Calls.{rewound_world, taken_world};
 ghost use Rattle.kj_model.specs.Fire.{with_firing};
 ghost use Rattle.promise_commands.specs.Commands.{command_of};
@@ -10,13 +9,12 @@ ghost use Rattle.promise_commands.specs.Refusals.{refusal_of};
 ghost use Rattle.promise_nodes.specs.Shown.{link_number};
 ghost use Rattle.promise_nodes.specs.Kept.{OnlyRises};
 ghost use Rattle.promise_walks.specs.Walks.{Both};
-ghost use Rattle.promise_walks.specs.Values.{Answer, setting_of};
-ghost use Rattle.promise_apply.specs.Applying.{IsApplied};
+ghost use Rattle.promise_apply.specs.Applying.{DoesCommand};
 
 use crate::keepers::Keepers;
 use kj_base::{Link, NoMemory};
 use promise_apply::apply;
-use promise_commands::{Command, Refused};
+use promise_commands::{Command, Refused, Steps};
 use promise_names::Names;
 use promise_nodes::Nodes;
 use std::alloc::Global;
@@ -77,15 +75,23 @@ impl<N: Nodes + Drop, M: Names + Drop> Ground<N, M> {
         &self.keepers.names
     }
 
-    /// A command is refused, and all is as before; or it has its effect.
-    pub fn apply(&mut self, command: &Command) -> Result<(), Refused>
-        ensures applied { (answer : Answer) (inside : Bool) (s : State) → Both (N.stands self.old.nodes) (M.stands self.old.names) s.world → IsApplied (Both (N.stands self.new.nodes) (M.stands self.new.names)) s.past (refusal_of result) (apply (setting_of N.rule answer) inside (command_of command.now) s) }
+    /// A command is refused, and all is as before; or it has its effect. The steps are told each free, in order.
+    pub fn apply<S: Steps>(&mut self, command: &Command, steps: &mut S) -> Result<(), Refused>
+        ensures applied { DoesCommand (Both (N.stands self.old.nodes) (M.stands self.old.names)) (Both (N.stands self.new.nodes) (M.stands self.new.names)) N.rule (refusal_of result) (command_of command.now) (S.told steps.old) (S.told steps.new) }
+        ensures lacks { S.lacks steps.new ≡ S.lacks steps.old }
         ensures plain { OnlyRises (N.is_plain self.old.nodes) (N.is_plain self.new.nodes) }
         ensures slots { N.slots self.new.nodes ≡ N.slots self.old.nodes }
         ensures limit { M.limit self.new.names ≡ M.limit self.old.names }
         ensures over { M.over self.new.names ≡ M.over self.old.names }
     {
-        apply(&mut self.keepers.nodes, &mut self.keepers.names, command)
+        apply(
+            &mut self.keepers.nodes,
+            &mut self.keepers.names,
+            &mut self.keepers.frames,
+            &mut self.keepers.search,
+            command,
+            steps,
+        )
     }
 
     /// The first event leaves the queue; its node, or number 0 for the wait.

@@ -60,6 +60,7 @@ impl<N: Nodes + Drop, M: Names + Drop> Land for Ground<N, M> {
         run_step(
             &mut self.keepers.nodes,
             &mut self.keepers.names,
+            &mut self.keepers.frames,
             &mut self.keepers.search,
             under_chain,
             node,

@@ -5,6 +5,7 @@ ghost use Rattle.name_table.specs.Table.{trees};
 
 use crate::tables::{TableEvaluator, evaluator_over_tables};
 use crate::teller::{GIVES_FOUND, Teller, Told};
+use crate::unheard::Unheard;
 use kj_base::{Limits, Name, NodeId};
 use promise_commands::Command;
 use promise_firing::close_all;
@@ -24,7 +25,7 @@ const ROOM: usize = 16;
 fn apply(over: &mut TableEvaluator, command: Command) -> bool
     ensures over { trees over.new.names.over ≡ trees over.old.names.over }
 {
-    over.ground.apply(&command).is_ok()
+    over.ground.apply(&command, &mut Unheard).is_ok()
 }
 
 fn later(over: &mut TableEvaluator, name: u32) -> bool

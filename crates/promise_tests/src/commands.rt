@@ -1,5 +1,6 @@
 //! Commands with their answers, worked out by hand.
 use crate::tables::{TableEvaluator, evaluator_over_tables};
+use crate::unheard::Unheard;
 use kj_base::{Exception, Kind, Limits, Link, Name, NodeId, StepId, Words};
 use promise_commands::{Command, Refused, Sources};
 use promise_names::{Held, Names};
@@ -103,7 +104,7 @@ fn all(number: u32, left: u32, right: u32) -> Command {
 
 // The answer of a command, and nothing else of it, so that tests are checked without its clauses.
 fn refused(over: &mut TableEvaluator, command: Command) -> Option<Refused> {
-    match over.ground.apply(&command) {
+    match over.ground.apply(&command, &mut Unheard) {
         Ok(()) => None,
         Err(refused) => Some(refused),
     }

@@ -1,6 +1,7 @@
 //! Trees that are evaluated, with what is told, worked out by hand.
 use crate::tables::{TableEvaluator, evaluator_over_tables};
 use crate::teller::{GIVES_PROMISE, GIVES_SEVEN, IS_REFUSED, LACKS, Teller, Told};
+use crate::unheard::Unheard;
 use kj_base::{Exception, Kind, Limits, Link, Name, NoMemory, NodeId, Outcome, StepId};
 use promise_commands::{Command, Steps};
 use promise_names::{Held, Names};
@@ -16,7 +17,7 @@ const LIMITS: Limits = Limits {
 const ROOM: usize = 16;
 
 fn apply(over: &mut TableEvaluator, command: Command) -> bool {
-    over.ground.apply(&command).is_ok()
+    over.ground.apply(&command, &mut Unheard).is_ok()
 }
 
 fn later(over: &mut TableEvaluator, name: u32) -> bool {

@@ -12,6 +12,8 @@ mod tables;
 mod teller;
 #[cfg(test)]
 mod turns;
+#[cfg(test)]
+mod unheard;
 
 pub use tables::{TableEvaluator, evaluator_over_tables};
 pub use teller::Teller;

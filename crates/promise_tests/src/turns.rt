@@ -4,6 +4,7 @@ ghost use Rattle.name_table.specs.Table.{trees};
 
 use crate::tables::{TableEvaluator, evaluator_over_tables};
 use crate::teller::{GIVES_PROMISE, GIVES_SEVEN, LACKS, Teller, Told};
+use crate::unheard::Unheard;
 use kj_base::{Limits, Name, NodeId, StepId};
 use promise_commands::{Command, Sources};
 use promise_turns::{Turned, turn};
@@ -20,7 +21,7 @@ const ROOM: usize = 16;
 fn apply(over: &mut TableEvaluator, command: Command) -> bool
     ensures over { trees over.new.names.over ≡ trees over.old.names.over }
 {
-    over.ground.apply(&command).is_ok()
+    over.ground.apply(&command, &mut Unheard).is_ok()
 }
 
 fn later(over: &mut TableEvaluator, name: u32) -> bool

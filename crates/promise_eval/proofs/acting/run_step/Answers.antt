@@ -1,5 +1,4 @@
-use Rattle.std.proofs.Common.{refl, [], ◌∷◌}
-use Rattle.kj_base.specs.Record.{Run}
+use Rattle.std.proofs.Common.{refl, []}
 use Rattle.kj_model.specs.Value.{with_stopped}
 use Rattle.promise_commands.specs.Commands.{action_of}
 use Rattle.promise_walks.specs.Walks.{Both}
@@ -12,12 +11,9 @@ returns-in-Ok-clause-gives g c =
     let n = c.args.node.number.0 in
     let step = c.args.step.0 in
     let action = action_of c.in-Ok.action in
-    record {
-      items = Run n step c.args.input action ∷ [];
-      told = c.in-Ok.ensures.ran;
-      same = ran (Both (g.N.Nodes.stands c.args.nodes.now) (g.M.Names.stands c.args.names.now)) (Both (g.N.Nodes.stands c.act.new.nodes) (g.M.Names.stands c.act.new.names)) g.N.Nodes.rule
-          c.args.under_chain n step c.args.input action (given_of c.act.result) c.act.ensures.acted;
-    }
+    let all = ran (Both (g.N.Nodes.stands c.args.nodes.now) (g.M.Names.stands c.args.names.now)) (Both (g.N.Nodes.stands c.act.new.nodes) (g.M.Names.stands c.act.new.names)) g.N.Nodes.rule
+        c.args.under_chain n step c.args.input action (given_of c.act.result) _ _ _ c.in-Ok.ensures.ran c.act.ensures.acted in
+    record { items = all.items; told = all.told; same = all.goes }
 
 pub returns-in-Err-clause-gives : goal.returns-in-Err-clause-gives
 returns-in-Err-clause-gives g c = record {

@@ -1,0 +1,107 @@
+-- Commands of a step, one after another, told with what they free.
+use Rattle.std.proofs.Common.{◌≡◌, ◌∙◌, sym, ap, subst, refl, ℕ, suc, ◌+◌, ◌<◌, List, [], ◌∷◌, ◌++◌, Option, None, Some, Bool, true, false, length, get_or, drop, append_assoc, arith}
+use Rattle.std.proofs.Math.Seq.{drop-cons}
+use Rattle.std.proofs.lemmas.List.{append-nil}
+use Rattle.kj_base.specs.declared.outcomes.Outcome.{Outcome}
+use Rattle.kj_base.specs.Commands.{Action, Command}
+use Rattle.kj_base.specs.Record.{Item}
+use Rattle.kj_model.specs.World.{World, State, Setting}
+use Rattle.kj_model.specs.Apply.{Refused, apply}
+use Rattle.kj_model.specs.Value.{Given, acted, all_applied, ended, ended_if, rest_applied}
+use Rattle.promise_apply.specs.Applying.{DoesCommand}
+use Rattle.promise_walks.specs.Values.{Answer, Rule, setting_of}
+use Rattle.promise_walks.proofs.Composed.{tells_none, tells_then}
+use Rattle.promise_eval.specs.Done.{Did, IsDone}
+
+-- nothing was done yet
+pub did_none : {E : Type 0} (A : World → Type 0) (rule : Rule) (f : Setting → State → E) (a : Option (List Item)) → Did A A rule f f a a
+did_none A rule f a = record {
+  items = [];
+  told = tells_none a;
+  moves = λ answer s old. record { state = s; stands = old; past_is = sym (append-nil s.past); ends = refl };
+}
+
+-- one part after another
+pub did_then : {E : Type 0} (A B C : World → Type 0) (rule : Rule) (f g h : Setting → State → E) (a b c : Option (List Item))
+    → Did A B rule f g a b → Did B C rule g h b c → Did A C rule f h a c
+did_then A B C rule f g h a b c p q = record {
+  items = p.items ++ q.items;
+  told = tells_then a b c p.items q.items p.told q.told;
+  moves = λ answer s old.
+      let r = p.moves answer s old in
+      let t = q.moves answer r.state r.stands in
+      record {
+        state = t.state;
+        stands = t.stands;
+        past_is = t.past_is ∙ ap (λ (xs : List Item). xs ++ q.items) r.past_is ∙ append_assoc s.past p.items q.items;
+        ends = t.ends ∙ r.ends;
+      };
+}
+
+-- the same from another definition
+pub did_from : {E : Type 0} (A B : World → Type 0) (rule : Rule) (f g h : Setting → State → E) (a b : Option (List Item))
+    → ((setting : Setting) (s : State) → f setting s ≡ g setting s) → Did A B rule f h a b → Did A B rule g h a b
+did_from A B rule f g h a b same p = record {
+  items = p.items;
+  told = p.told;
+  moves = λ answer s old.
+      let r = p.moves answer s old in
+      record { state = r.state; stands = r.stands; past_is = r.past_is; ends = r.ends ∙ same (setting_of rule answer) s };
+}
+
+-- a command that had its effect
+pub did_first : (A B : World → Type 0) (rule : Rule) (c : Command) (cs : List Command) (a b : Option (List Item))
+    → DoesCommand A B rule None c a b
+    → Did A B rule (λ setting s. all_applied setting (c ∷ cs) s) (λ setting s. all_applied setting cs s) a b
+did_first A B rule c cs a b done = record {
+  items = done.items;
+  told = done.told;
+  moves = λ answer s old.
+      let setting : Setting = setting_of rule answer in
+      let r = done.applied answer true s old in
+      record {
+        state = (apply setting true c s).0;
+        stands = r.stands;
+        past_is = r.past_is;
+        ends = sym (ap (λ (o : Option Refused). rest_applied o (all_applied setting cs) (apply setting true c s).0) r.reply);
+      };
+}
+
+-- a command that was refused
+pub did_refused : (A B : World → Type 0) (rule : Rule) (refused : Refused) (c : Command) (cs : List Command) (a b : Option (List Item))
+    → DoesCommand A B rule (Some refused) c a b
+    → Did A B rule (λ setting s. all_applied setting (c ∷ cs) s) (λ setting s. (s, false)) a b
+did_refused A B rule refused c cs a b done = record {
+  items = done.items;
+  told = done.told;
+  moves = λ answer s old.
+      let setting : Setting = setting_of rule answer in
+      let r = done.applied answer true s old in
+      record {
+        state = (apply setting true c s).0;
+        stands = r.stands;
+        past_is = r.past_is;
+        ends = sym (ap (λ (o : Option Refused). rest_applied o (all_applied setting cs) (apply setting true c s).0) r.reply);
+      };
+}
+
+-- commands, and then what an action gives, where the one agrees with the other
+pub did_ended : (A B C : World → Type 0) (rule : Rule) (action : Action) (under_chain b : Bool) (input : Outcome) (given : Given) (x y : Option (List Item))
+    → Did A B rule (λ setting s. all_applied setting action.commands s) (λ setting s. (s, b)) x y
+    → ((s : State) → B s.world → IsDone C s.past given (ended_if b action.ending under_chain input s))
+    → Did A C rule (λ setting s. acted setting action under_chain input s) (λ setting s. (s, given)) x y
+did_ended A B C rule action under_chain b input given x y all done = record {
+  items = all.items;
+  told = all.told;
+  moves = λ answer s old.
+      let setting : Setting = setting_of rule answer in
+      let r = all.moves answer s old in
+      let e = done r.state r.stands in
+      let whole : State × Given = ended_if b action.ending under_chain input r.state in
+      record {
+        state = whole.0;
+        stands = e.stands;
+        past_is = e.past_is ∙ r.past_is;
+        ends = sym (ap (λ (p : State × Bool). ended_if p.1 action.ending under_chain input p.0) (sym r.ends) ∙ ap (λ (g : Given). (whole.0, g)) e.answer_is);
+      };
+}
