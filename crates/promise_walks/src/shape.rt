@@ -10,11 +10,12 @@ use kj_base::{Content, Form, Link, NodeId, Slot, Stage};
 use promise_names::Leaving;
 use promise_nodes::Nodes;
 
-/// Nodes whose numbers follow each other, from the next one on. Only the slot of the first of them is known.
+/// Nodes whose numbers follow each other, from the next one on. Only the slot of the first of them is known. The count is
+/// as wide as a word, so that a copy reads what was written as a whole.
 #[derive(Clone, Copy, Debug, PartialEq, Eq)]
 pub struct Parts {
     pub next: Link,
-    pub count: u8,
+    pub count: u64,
 }
 
 // The parts of a node, what it leaves, and a branch's hub.
@@ -120,7 +121,7 @@ fn parts_of(form: &Form) -> Parts
         },
         Form::Join { first, count, .. } => Parts {
             next: *first,
-            count: *count,
+            count: u64::from(*count),
         },
         Form::Task { tree } => parts_of_tree(*tree),
         Form::Request { tree, .. } => parts_of_tree(*tree),
