@@ -18,6 +18,7 @@ pub mod Adding
 pub mod Leaving
 pub mod Branches
 pub mod Joining
+pub mod Marked
 pub mod Members
 pub mod Ruled
 pub mod Replaced

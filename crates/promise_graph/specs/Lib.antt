@@ -7,3 +7,4 @@ pub mod New
 pub mod Rows
 pub mod Named
 pub mod Laws
+pub mod Visits

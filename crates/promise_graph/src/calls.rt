@@ -3,15 +3,16 @@ ghost use Rattle.std.specs.Prelude.{◌≡◌, ◌<◌, ◌≤◌, ◌+◌, ℕ,
 
 use crate::graph::Graph;
 use crate::{
-    building, events, finding, fitting, freeing, hubs, own_set, owners, putting, replacing,
+    building, events, finding, fitting, freeing, hubs, own_set, owners, putting, replacing, visits,
 };
 use kj_base::{Form, Link, Queue, Store};
-use promise_nodes::{NodeRow, Nodes, Way};
+use promise_nodes::{Mark, NodeRow, Nodes, Way};
 
 impl<St: Store + Drop, Q: Queue + Drop> Nodes for Graph<St, Q> {
     ghost use Rattle.promise_graph.specs.Kept.{is_taken, is_listed, is_plain};
     ghost use Rattle.promise_graph.specs.Standing.{StandsFor};
     ghost use Rattle.promise_graph.specs.Rows.{room_of};
+    ghost use Rattle.promise_graph.specs.Visits.{mark_of};
 
     ghost stands = { λ g w. StandsFor (St.node_at g.store) (Q.events g.queue) (St.stands g.store) g.marks w };
 
@@ -24,6 +25,8 @@ impl<St: Store + Drop, Q: Queue + Drop> Nodes for Graph<St, Q> {
     ghost is_listed = { λ g n. is_listed (St.node_at g.store) g.marks n };
 
     ghost is_plain = { λ g n. is_plain (St.node_at g.store) g.marks n };
+
+    ghost marks = { λ g n. mark_of g.visits g.marks n };
 
     ghost room = { λ g rows. room_of (St.room g.store) g.marks rows };
 
@@ -131,6 +134,20 @@ impl<St: Store + Drop, Q: Queue + Drop> Nodes for Graph<St, Q> {
 
     fn set_awaited(&mut self, awaited: Option<Link>) {
         events::set_awaited(&mut self.fields, awaited);
+    }
+
+    fn clear_marks(&mut self) {
+        visits::forget(&mut self.visits, self.fields.marks.slots);
+    }
+
+    fn mark(&mut self, node: Link, mark: Mark) {
+        if let Some(slot) = finding::find(&self.fields, node) {
+            visits::note(&mut self.visits, self.fields.marks.slots, slot, mark);
+        }
+    }
+
+    fn mark_of(&self, node: Link) -> Mark {
+        visits::mark_at(&self.visits, finding::find(&self.fields, node))
     }
 
     ghost use Rattle.promise_graph.specs.Laws.{names_free, left_out, one_of_two};

@@ -7,6 +7,7 @@ ghost use Rattle.promise_graph.specs.Standing.{StandsFor};
 
 use crate::fields::Fields;
 use crate::making::new_marks;
+use crate::visits::{Visits, new_visits};
 use kj_base::{Limits, MAX_SLOTS, NoMemory, Queue, Store};
 use std::alloc::Global;
 use std::marker::Model;
@@ -15,18 +16,19 @@ use std::marker::Model;
 #[derive(Drop)]
 pub struct Graph<St: Store + Drop, Q: Queue + Drop> {
     pub(crate) fields: Fields<St, Q>,
+    pub(crate) visits: Visits,
 }
 
 impl<St: Store + Drop, Q: Queue + Drop> Model for Graph<St, Q> {
-    ghost use Rattle.promise_graph.specs.declared.fields.Fields.{Fields};
+    ghost use Rattle.promise_graph.specs.Visits.{AreVisits, Whole, whole};
 
-    ghost Value = { Fields St Q };
+    ghost Value = { Whole St Q };
 
     ghost use Rattle.promise_graph.specs.Kept.{IsKept};
 
-    ghost view = { λ a. a.fields };
+    ghost view = { λ a. whole a.fields a.visits };
 
-    ghost invariant = { λ a. IsKept (St.node_at a.fields.store) (St.is_bare a.fields.store) (Q.events a.fields.queue) (St.slots a.fields.store) (Q.size a.fields.queue) a.fields.marks };
+    ghost invariant = { λ a. IsKept (St.node_at a.fields.store) (St.is_bare a.fields.store) (Q.events a.fields.queue) (St.slots a.fields.store) (Q.size a.fields.queue) a.fields.marks × AreVisits a.visits a.fields.marks.slots };
 }
 
 impl<St: Store + Drop, Q: Queue + Drop> Graph<St, Q> {
@@ -41,15 +43,15 @@ impl<St: Store + Drop, Q: Queue + Drop> Graph<St, Q> {
         ensures stands { IfOk result (λ g. (all : Limits) → all.slots ≡ limits.slots → StandsFor (St.node_at g.store) (Q.events g.queue) (St.stands g.store) g.marks (new_world all)) }
         ensures slots { IfOk result (λ g. g.marks.slots ≡ limits.slots) }
     {
-        match new_marks(alloc, limits.slots) {
-            Ok(marks) => Ok(Graph {
-                fields: Fields {
-                    store,
-                    queue,
-                    marks,
-                },
-            }),
-            Err(none) => Err(none),
-        }
+        let marks = new_marks(alloc, limits.slots)?;
+        let visits = new_visits(alloc, limits.slots)?;
+        Ok(Graph {
+            fields: Fields {
+                store,
+                queue,
+                marks,
+            },
+            visits,
+        })
     }
 }

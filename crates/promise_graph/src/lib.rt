@@ -18,11 +18,13 @@ mod parts;
 mod putting;
 mod replacing;
 mod rings;
+mod visits;
 
 pub use fields::{Fields, Marks, Rings};
 pub use graph::Graph;
 pub use index::Entry;
 pub use parts::Span;
+pub use visits::{Visit, Visits};
 
 #[cfg(test)]
 mod tests;

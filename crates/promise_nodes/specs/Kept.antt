@@ -1,5 +1,5 @@
 -- What the calls of a keeper of nodes change and keep.
-use Rattle.std.specs.Prelude.{◌≡◌, ◌≢◌, ℕ, ◌<◌, List, [], ◌∷◌, Option, None, Some, Bool, true, false, IsSome, is_some, find, reverse, map, zero, suc, nat_lt, ◌-◌, if◌then◌else◌}
+use Rattle.std.specs.Prelude.{◌≡◌, ◌≢◌, ℕ, ◌<◌, List, [], ◌∷◌, Option, None, Some, Bool, true, false, IsSome, is_some, find, reverse, ◌==◌, map, zero, suc, nat_lt, ◌-◌, if◌then◌else◌}
 use Rattle.std.specs.List.{AllByRecursion}
 use Rattle.kj_base.specs.declared.nodes.Form.{Form as FormCase}
 use Rattle.kj_base.specs.declared.nodes.Form.TheVariants.{Branch as BranchCase}
@@ -10,6 +10,8 @@ use Rattle.kj_model.specs.Fire.{branches_of}
 use Rattle.kj_model.specs.Changes.{put}
 use Rattle.promise_nodes.specs.Shown.{shown, link_number}
 use Rattle.promise_nodes.specs.declared.nodes.NodeRow.{NodeRow}
+use Rattle.promise_nodes.specs.declared.nodes.Mark.{Mark}
+use Rattle.promise_nodes.specs.declared.nodes.Mark.TheVariants.{Unmarked}
 
 -- all but names, what is left over, asks, and whether it is stopped is the same
 abbrev pub SameNodes : World → World → Type 0
@@ -152,3 +154,23 @@ IsBeforeBuilt next r = IsNumberBuilt next r.before
 -- each row goes anew or before a node that was built
 abbrev pub AreRowsBuilt : ℕ → List Row → Type 0
 AreRowsBuilt next rows = AllByRecursion (IsBeforeBuilt next) rows
+
+-- this holds of the same nodes as before
+abbrev pub Same : (ℕ → Bool) → (ℕ → Bool) → Type 0
+Same old new = (n : ℕ) → new n ≡ old n
+
+-- there is room for the same rows as before
+abbrev pub SameRows : (List Row → Bool) → (List Row → Bool) → Type 0
+SameRows old new = (rows : List Row) → new rows ≡ old rows
+
+-- no node has a mark
+abbrev pub AreUnmarked : (ℕ → Mark) → Type 0
+AreUnmarked marks = (n : ℕ) → marks n ≡ Unmarked
+
+-- the marks with this one at a node
+abbrev pub marked : ℕ → Mark → (ℕ → Mark) → ℕ → Mark
+marked n mark marks m = if m == n then mark else marks m
+
+-- a node has this mark now, and the others have what they had
+abbrev pub IsMarked : ℕ → Mark → (ℕ → Mark) → (ℕ → Mark) → Type 0
+IsMarked n mark old new = (m : ℕ) → new m ≡ marked n mark old m

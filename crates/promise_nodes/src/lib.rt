@@ -3,4 +3,4 @@
 
 mod nodes;
 
-pub use nodes::{NodeRow, Nodes, Way};
+pub use nodes::{Mark, NodeRow, Nodes, Way};

@@ -12,7 +12,7 @@ ghost use Rattle.kj_model.specs.Effects.{with_branch_in, with_detached, disarmed
 ghost use Rattle.kj_model.specs.Calls.{rewound_world, taken_world, hubs_of};
 ghost use Rattle.promise_nodes.specs.Shown.{shown, link_number, Sees, SeesOwner, way_of};
 ghost use Rattle.promise_nodes.specs.Once.{AreOnce};
-ghost use Rattle.promise_nodes.specs.Kept.{SameNodes, IsLive, newest_task, without_detached, IsEvent, IsBranch, IsPart, IsReplaceable, KeepsKind, is_unreferenced, awaited_root, rows_left, OnlyFalls, OnlyRises, RisesIn, IsPlain, ShowsPlain, AreRoots, AreBuilt, AddsNone, AreRowsBuilt, put_form, rows_seen, tree_replaced};
+ghost use Rattle.promise_nodes.specs.Kept.{SameNodes, IsLive, newest_task, without_detached, IsEvent, IsBranch, IsPart, IsReplaceable, KeepsKind, is_unreferenced, awaited_root, rows_left, OnlyFalls, OnlyRises, RisesIn, IsPlain, ShowsPlain, AreRoots, AreBuilt, AddsNone, AreRowsBuilt, put_form, rows_seen, tree_replaced, AreUnmarked, IsMarked, Same, SameRows};
 
 use kj_base::{Form, Link};
 
@@ -22,6 +22,14 @@ pub enum Way {
     DepthFirst,
     BreadthFirst,
     AtLast,
+}
+
+/// What a walk that changes nothing notes at a node: that it left its hub, or that it went.
+#[derive(Clone, Copy, Debug, PartialEq, Eq)]
+pub enum Mark {
+    Unmarked,
+    Left,
+    Gone,
 }
 
 /// One or two nodes, placed one before the other, the first of them before a node or anew.
@@ -47,6 +55,8 @@ impl Default for NodeRow {
 /// The contracts speak of each world that it stands for: of its nodes, queue, spots, limits, firing event and awaited
 /// tree, whatever the names and lists of that world are.
 pub trait Nodes {
+    ghost use Rattle.promise_nodes.specs.declared.nodes.Mark.{Mark};
+
     /// It stands for this world.
     ghost stands: { Self → World → Type 0 };
 
@@ -64,6 +74,9 @@ pub trait Nodes {
 
     /// Whether a number was given to a node that is no hub and no branch, or that went.
     ghost is_plain: { Self → ℕ → Bool };
+
+    /// The marks by the numbers of nodes. No world sees them, and calls that say nothing of them may change them.
+    ghost marks: { Self → ℕ → Mark };
 
     /// Whether nodes in these rows can be placed.
     ghost room: { Self → List RowSeen → Bool };
@@ -266,6 +279,32 @@ pub trait Nodes {
         ensures plain { OnlyRises (is_plain self.old) (is_plain self.new) }
         ensures next { next self.new ≡ next self.old }
         ensures slots { slots self.new ≡ slots self.old };
+
+    /// No node has a mark.
+    fn clear_marks(&mut self)
+        ensures marks { AreUnmarked (marks self.new) }
+        ensures stands { (w : World) → stands self.old w → stands self.new w }
+        ensures taken { Same (is_taken self.old) (is_taken self.new) }
+        ensures listed { Same (is_listed self.old) (is_listed self.new) }
+        ensures plain { Same (is_plain self.old) (is_plain self.new) }
+        ensures room { SameRows (room self.old) (room self.new) }
+        ensures next { next self.new ≡ next self.old }
+        ensures slots { slots self.new ≡ slots self.old };
+
+    /// A live node has this mark in place of the one that it had.
+    fn mark(&mut self, node: Link, mark: Mark)
+        ensures marks { (w : World) → stands self.old w → IsLive w node.number.0 → IsMarked node.number.0 mark (marks self.old) (marks self.new) }
+        ensures stands { (w : World) → stands self.old w → stands self.new w }
+        ensures taken { Same (is_taken self.old) (is_taken self.new) }
+        ensures listed { Same (is_listed self.old) (is_listed self.new) }
+        ensures plain { Same (is_plain self.old) (is_plain self.new) }
+        ensures room { SameRows (room self.old) (room self.new) }
+        ensures next { next self.new ≡ next self.old }
+        ensures slots { slots self.new ≡ slots self.old };
+
+    /// The mark of a node.
+    fn mark_of(&self, node: Link) -> Mark
+        ensures { result ≡ marks self.now node.number.0 };
 
     /// Names and lists don't matter.
     ghost names_free: { (nodes : Self) (w v : World) → SameNodes w v → stands nodes w → stands nodes v };

@@ -8,6 +8,8 @@ mod closings;
 mod commands;
 #[cfg(test)]
 mod evaluations;
+#[cfg(test)]
+mod fallings;
 mod tables;
 mod teller;
 #[cfg(test)]

@@ -4,8 +4,10 @@ pub mod Climbed
 pub mod Composed
 pub mod Costs
 pub mod Entered
+pub mod Fallen
 pub mod Finished
 pub mod Left
+pub mod Seen
 pub mod Sought
 pub mod Summed
 pub mod Unlisted

@@ -5,3 +5,4 @@ pub mod Sums
 pub mod Values
 pub mod Looks
 pub mod Climbs
+pub mod Falls

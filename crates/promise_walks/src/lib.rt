@@ -3,6 +3,7 @@
 
 mod closing;
 mod evaluating;
+mod falling;
 mod freeing;
 mod guard;
 mod holding;
@@ -16,6 +17,7 @@ mod shape;
 mod sums;
 
 pub use evaluating::evaluate;
+pub use falling::would_free;
 pub use freeing::{Frame, free_part, free_tree, free_unreferenced};
 pub use guard::Guard;
 pub use holding::holds;

@@ -1,5 +1,6 @@
 use Rattle.promise_graph.proofs.Following.{stands_for}
+use Rattle.promise_graph.proofs.Marked.{stands_seen}
 use Rattle.promise_graph.proofs.calls.GraphNodes.delist.Goals as goal
 
 pub returns-clause-stands : goal.returns-clause-stands
-returns-clause-stands g c w st = stands_for _ _ _ _ _ c.delist.ensures.kept.sound.numbered (c.delist.ensures.stands w (rw c.self.view_is st.stands))
+returns-clause-stands g c w st = stands_for _ _ _ _ _ c.delist.ensures.kept.sound.numbered (c.delist.ensures.stands w (stands_seen g.St.Store.node_at g.Q.Queue.events g.St.Store.stands _ _ w c.self.view_is st.stands))

@@ -1,5 +1,6 @@
 use Rattle.promise_graph.proofs.Following.{stands_for}
+use Rattle.promise_graph.proofs.Marked.{stands_seen}
 use Rattle.promise_graph.proofs.calls.GraphNodes.join_hub.Goals as goal
 
 pub returns-clause-stands : goal.returns-clause-stands
-returns-clause-stands g c w st is = stands_for _ _ _ _ _ c.join_hub.ensures.kept.sound.numbered (c.join_hub.ensures.stands w (rw c.self.view_is st.stands) is)
+returns-clause-stands g c w st is = stands_for _ _ _ _ _ c.join_hub.ensures.kept.sound.numbered (c.join_hub.ensures.stands w (stands_seen g.St.Store.node_at g.Q.Queue.events g.St.Store.stands _ _ w c.self.view_is st.stands) is)
