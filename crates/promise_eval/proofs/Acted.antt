@@ -1,6 +1,8 @@
 -- Commands of a step, one after another, told with what they free.
 use Rattle.std.proofs.Common.{◌≡◌, ◌∙◌, sym, ap, subst, refl, ℕ, suc, ◌+◌, ◌<◌, List, [], ◌∷◌, ◌++◌, Option, None, Some, Bool, true, false, length, get_or, drop, append_assoc, arith}
+use Rattle.std.specs.Prelude.{Result, Ok, Err, is_err}
 use Rattle.std.proofs.Math.Seq.{drop-cons}
+use Rattle.std.proofs.lemmas.Bool.{false≢true}
 use Rattle.std.proofs.lemmas.List.{append-nil}
 use Rattle.kj_base.specs.declared.outcomes.Outcome.{Outcome}
 use Rattle.kj_base.specs.Commands.{Action, Command}
@@ -9,9 +11,13 @@ use Rattle.kj_model.specs.World.{World, State, Setting}
 use Rattle.kj_model.specs.Apply.{Refused, apply}
 use Rattle.kj_model.specs.Value.{Given, acted, all_applied, ended, ended_if, rest_applied}
 use Rattle.promise_apply.specs.Applying.{DoesCommand}
+use Rattle.promise_commands.specs.Commands.{command_of}
+use Rattle.promise_commands.specs.Refusals.{refusal_of, refused_of}
+use Rattle.promise_commands.specs.declared.command.Command.{Command as CommandCase}
+use Rattle.promise_commands.specs.declared.refused.Refused.{Refused as RefusedCase}
 use Rattle.promise_walks.specs.Values.{Answer, Rule, setting_of}
 use Rattle.promise_walks.proofs.Composed.{tells_none, tells_then}
-use Rattle.promise_eval.specs.Done.{Did, IsDone}
+use Rattle.promise_eval.specs.Done.{Did, IsDone, commands_of}
 
 -- nothing was done yet
 pub did_none : {E : Type 0} (A : World → Type 0) (rule : Rule) (f : Setting → State → E) (a : Option (List Item)) → Did A A rule f f a a
@@ -105,3 +111,42 @@ did_ended A B C rule action under_chain b input given x y all done = record {
         ends = sym (ap (λ (p : State × Bool). ended_if p.1 action.ending under_chain input p.0) (sym r.ends) ∙ ap (λ (g : Given). (whole.0, g)) e.answer_is);
       };
 }
+
+up : (i : ℕ) → suc i ≡ i + 1
+up i = omega arith
+
+-- the command at a place stands before the others
+pub at_place : (commands : List CommandCase) (i : ℕ) (c : CommandCase) → i < length commands → get_or commands i c ≡ c → commands_of (drop i commands) ≡ command_of c ∷ commands_of (drop (i + 1) commands)
+at_place commands i c low is =
+    ap commands_of (drop-cons commands i c low)
+    ∙ ap (λ (x : CommandCase). command_of x ∷ commands_of (drop (suc i) commands)) is
+    ∙ ap (λ (k : ℕ). command_of c ∷ commands_of (drop k commands)) (up i)
+
+none_refused : (r : Result (Unit {0}) RefusedCase) → is_err r ≡ false → refusal_of r ≡ None
+none_refused (Ok x) h = refl
+none_refused (Err e) h = absurd (false≢true (sym h))
+
+some_refused : (r : Result (Unit {0}) RefusedCase) → is_err r ≡ true → (refused : Refused) × (refusal_of r ≡ Some refused)
+some_refused (Ok x) h = absurd (false≢true h)
+some_refused (Err e) h = (refused_of e, refl)
+
+-- a command of a list that was refused
+pub did_refused_at : (A B : World → Type 0) (rule : Rule) (r : Result (Unit {0}) RefusedCase) (commands : List CommandCase) (i : ℕ) (c : CommandCase) (a b : Option (List Item))
+    → is_err r ≡ true → commands_of (drop i commands) ≡ command_of c ∷ commands_of (drop (i + 1) commands) → DoesCommand A B rule (refusal_of r) (command_of c) a b
+    → Did A B rule (λ setting s. all_applied setting (commands_of (drop i commands)) s) (λ setting s. (s, false)) a b
+did_refused_at A B rule r commands i c a b err place done =
+    let some = some_refused r err in
+    let cs = commands_of (drop (i + 1) commands) in
+    did_from A B rule (λ setting s. all_applied setting (command_of c ∷ cs) s) (λ setting s. all_applied setting (commands_of (drop i commands)) s) (λ setting s. (s, false)) a b
+    (λ setting s. ap (λ (xs : List Command). all_applied setting xs s) (sym place))
+    (did_refused A B rule some.0 (command_of c) cs a b (subst (λ (o : Option Refused). DoesCommand A B rule o (command_of c) a b) some.1 done))
+
+-- and one that had its effect
+pub did_first_at : (A B : World → Type 0) (rule : Rule) (r : Result (Unit {0}) RefusedCase) (commands : List CommandCase) (i : ℕ) (c : CommandCase) (a b : Option (List Item))
+    → is_err r ≡ false → commands_of (drop i commands) ≡ command_of c ∷ commands_of (drop (i + 1) commands) → DoesCommand A B rule (refusal_of r) (command_of c) a b
+    → Did A B rule (λ setting s. all_applied setting (commands_of (drop i commands)) s) (λ setting s. all_applied setting (commands_of (drop (i + 1) commands)) s) a b
+did_first_at A B rule r commands i c a b ok place done =
+    let cs = commands_of (drop (i + 1) commands) in
+    did_from A B rule (λ setting s. all_applied setting (command_of c ∷ cs) s) (λ setting s. all_applied setting (commands_of (drop i commands)) s) (λ setting s. all_applied setting cs s) a b
+    (λ setting s. ap (λ (xs : List Command). all_applied setting xs s) (sym place))
+    (did_first A B rule (command_of c) cs a b (subst (λ (o : Option Refused). DoesCommand A B rule o (command_of c) a b) (none_refused r ok) done))
