@@ -1,2 +1,4 @@
 pub mod Names
 pub mod Worlds
+pub mod Calm
+pub mod Frees

@@ -7,7 +7,7 @@ use Rattle.kj_base.specs.declared.outcomes.Outcome.{Outcome}
 use Rattle.kj_base.specs.Places.{Spot, spot_of}
 use Rattle.kj_base.specs.Queue.{Way}
 use Rattle.kj_model.specs.Nodes.{Form, Cell, Entry, form_at, owner_of, has_event}
-use Rattle.kj_model.specs.World.{World, Named, Held, Promise, CellOf, AskCell, HubOf, Group, Canceler, RequestOf, Awaited, held_at, depth_of}
+use Rattle.kj_model.specs.World.{World, Named, Held, Promise, CellOf, AskCell, HubOf, Group, Canceler, RequestOf, Awaited, Asked, Ended, held_at, depth_of}
 use Rattle.kj_model.specs.Changes.{named, unnamed, with_names, without_name, with_new, arm_listener, put}
 use Rattle.kj_model.specs.Places.{placed, placed_if, placed_over, built}
 use Rattle.kj_model.specs.Listening.{listener, listener_from, listener_over, listener_if, announced, listened, listened_if, listened_way, is_last, ready, settled, settled_form}
@@ -244,3 +244,50 @@ replaced_near loose old new k w v r =
         name_loose : Option Awaited → Bool
         name_loose None = false
         name_loose (Some x) = loose x.name
+
+-- lists that change in any way
+pub lists_near : (loose : ℕ → Bool) (k : ℕ) (qs bs : List Asked) (es fs : List Ended) (cs ds : List ℕ) (w v : World) → Near loose k w v → Near loose k (record w { asks = qs; ended = es; abandoned = cs }) (record v { asks = bs; ended = fs; abandoned = ds })
+lists_near loose k qs bs es fs cs ds w v r =
+    let a = r.alike in
+    record {
+      alike = record {
+        lists = record { names = v.names; asks = bs; ended = fs; abandoned = ds };
+        seen = ap (λ (u : World). record u { names = v.names; asks = bs; ended = fs; abandoned = ds }) a.seen;
+        same = a.same;
+        left = a.left;
+        right = a.right;
+        awaited = a.awaited;
+      };
+      left = r.left;
+      right = r.right;
+    }
+
+-- what is read off both, but for lists and names
+pub read_alike : {A : Type 0} (loose : ℕ → Bool) (k : ℕ) (r : World → A) (w v : World) → ((l : Lists) (u : World) → r (with_lists l u) ≡ r u) → Near loose k w v → r w ≡ r v
+read_alike loose k r w v h n = sym (ap r n.alike.seen ∙ h n.alike.lists w)
+
+-- both have this name
+pub record Both (c : ℕ) (w v : World) : Type 0 where
+  pub left : is_some (held_at c w.names) ≡ true
+  pub right : is_some (held_at c v.names) ≡ true
+
+pub some_taken : (o : Option Held) → is_some (found_taken o) ≡ is_some o
+some_taken None = refl
+some_taken (Some h) = refl
+
+-- a change that goes by what a name holds, where it doesn't see whether an ask was taken, and does nothing for what is spent
+pub by_held : (loose : ℕ → Bool) (op : Option Held → World → World) (c k j : ℕ) (w v : World) → k ≤ j → ((h : Option Held) (u : World) → op (found_taken h) u ≡ op h u) → ((h : Option Held) (u : World) → is_spent h ≡ true → op h u ≡ u) → ((h : Option Held) → (is_some h ≡ true → Both c w v) → loose c ≡ false → Near loose k (op h w) (op h v)) → Near loose j w v → Near loose k (op (held_at c w.names) w) (op (held_at c v.names) v)
+by_held loose op c k j w v less untold none step r = decide (loose c) refl
+  where
+    decide : (b : Bool) → loose c ≡ b → Near loose k (op (held_at c w.names) w) (op (held_at c v.names) v)
+    decide true e =
+        let x = none (held_at c w.names) w (held_spent loose c w.names e r.alike.left.spent) in
+        let y = none (held_at c v.names) v (held_spent loose c v.names e r.alike.right.spent) in
+        subst (λ (u : World). Near loose k u (op (held_at c v.names) v)) (sym x) (subst (Near loose k w) (sym y) (less_room loose j k w v less r))
+    decide false e =
+        let h = found_taken (held_at c w.names) in
+        let same = held_alike loose j c w v e r in
+        let x = untold (held_at c w.names) w in
+        let y = ap (λ (o : Option Held). op o v) (sym same) ∙ untold (held_at c v.names) v in
+        let n = step h (λ i. record { left = sym (some_taken (held_at c w.names)) ∙ i; right = sym (some_taken (held_at c v.names)) ∙ ap is_some same ∙ i }) e in
+        subst (λ (u : World). Near loose k u (op (held_at c v.names) v)) x (subst (Near loose k (op h w)) y n)

@@ -6,30 +6,20 @@ use Rattle.kj_base.specs.Record.{Item, Run, Free}
 use Rattle.kj_model.specs.World.{World}
 use Rattle.kj_model.specs.Uses.{Use, uses_of, is_new}
 
--- one where it holds
-abbrev pub one_more : Bool → ℕ → ℕ
-one_more true n = suc n
-one_more false n = n
-
--- how many new names there are among these
-abbrev pub new_uses : List Use → ℕ
-new_uses [] = zero
-new_uses (u ∷ us) = one_more (is_new u.role) (new_uses us)
-
--- how many new names a command makes
-abbrev pub news_of : Command → ℕ
-news_of c = new_uses (uses_of c)
+-- how many names a command names
+abbrev pub names_of : Command → ℕ
+names_of c = length (uses_of c)
 
 -- those of all commands
-abbrev pub news_of_all : List Command → ℕ
-news_of_all [] = zero
-news_of_all (c ∷ cs) = news_of c + news_of_all cs
+abbrev pub names_of_all : List Command → ℕ
+names_of_all [] = zero
+names_of_all (c ∷ cs) = names_of c + names_of_all cs
 
 -- those of all commands of the steps that ran
-abbrev pub news_in : List Item → ℕ
-news_in [] = zero
-news_in (Run n step input action ∷ items) = news_of_all action.commands + news_in items
-news_in (Free n ∷ items) = news_in items
+abbrev pub names_in : List Item → ℕ
+names_in [] = zero
+names_in (Run n step input action ∷ items) = names_of_all action.commands + names_in items
+names_in (Free n ∷ items) = names_in items
 
 -- no new name is loose
 abbrev pub spares_uses : (ℕ → Bool) → List Use → Bool
