@@ -2,3 +2,4 @@ pub mod Names
 pub mod Worlds
 pub mod Calm
 pub mod Frees
+pub mod Effects
