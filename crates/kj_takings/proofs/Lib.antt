@@ -3,3 +3,4 @@ pub mod Worlds
 pub mod Calm
 pub mod Frees
 pub mod Effects
+pub mod Refusals
