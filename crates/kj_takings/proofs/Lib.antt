@@ -4,3 +4,4 @@ pub mod Calm
 pub mod Frees
 pub mod Effects
 pub mod Refusals
+pub mod Values
