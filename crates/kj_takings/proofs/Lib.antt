@@ -5,3 +5,4 @@ pub mod Frees
 pub mod Effects
 pub mod Refusals
 pub mod Values
+pub mod Fires

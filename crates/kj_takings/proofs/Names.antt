@@ -328,3 +328,100 @@ sorted_renamed loose old new xs s = record { spent = spent xs s.spent; rising = 
 pub length_renamed : (old new : ℕ) (xs : List Named) → length (map (named_renamed old new) xs) ≡ length xs
 length_renamed old new [] = refl
 length_renamed old new (x ∷ xs) = let h = length_renamed old new xs in omega (arith, h)
+
+-- the set of a task has a firm name that is there
+group_case : (P : Named → Type 0) (n : ℕ) (y x : Named) (ys : List Named) → (has_task n y.held ≡ true → P y) → (group_of n ys ≡ Some x → P x) → group_of n (y ∷ ys) ≡ Some x → P x
+group_case P n y x ys here later e = decide (has_task n y.held) refl
+  where
+    some_or : Named → Option Named → Named
+    some_or a None = a
+    some_or a (Some b) = b
+
+    decide : (b : Bool) → has_task n y.held ≡ b → P x
+    decide true h = subst P (ap (some_or y) (sym (group_here n y ys h) ∙ e)) (here h)
+    decide false h = later (sym (group_later n y ys h) ∙ e)
+
+pub group_spent : (loose : ℕ → Bool) (n : ℕ) (xs : List Named) (x : Named) → LooseAreSpent loose xs → group_of n xs ≡ Some x → loose x.name ≡ true → is_spent (Some x.held) ≡ true
+group_spent loose n [] x s e = absurd (false≢true (ap is_some e))
+group_spent loose n (y ∷ ys) x s e = group_case (λ z. loose z.name ≡ true → is_spent (Some z.held) ≡ true) n y x ys (λ h. s.0) (group_spent loose n ys x s.1) e
+
+present_more : (y : Named) (ys : List Named) (c : ℕ) → is_some (held_at c ys) ≡ true → is_some (held_at c (y ∷ ys)) ≡ true
+present_more y ys c h = decide (nat_eq y.name c) refl
+  where
+    decide : (b : Bool) → nat_eq y.name c ≡ b → is_some (held_at c (y ∷ ys)) ≡ true
+    decide true e = ap is_some (held_here c y ys e)
+    decide false e = ap is_some (held_later c y ys e) ∙ h
+
+self_name : (n : ℕ) → nat_eq n n ≡ true
+self_name n = grind (arith, nat_tests)
+
+pub group_present : (n : ℕ) (xs : List Named) (x : Named) → group_of n xs ≡ Some x → is_some (held_at x.name xs) ≡ true
+group_present n [] x e = absurd (false≢true (ap is_some e))
+group_present n (y ∷ ys) x e = group_case (λ z. is_some (held_at z.name (y ∷ ys)) ≡ true) n y x ys (λ h. ap is_some (held_here y.name y ys (self_name y.name))) (λ h. present_more y ys x.name (group_present n ys x h)) e
+
+pub group_no_loose : (loose : ℕ → Bool) (n : ℕ) (xs : List Named) (x : Named) → LooseAreSpent loose xs → group_of n xs ≡ Some x → loose x.name ≡ true → ⊥
+group_no_loose loose n xs x s e l = false≢true (sym (spent_taskless n x.held (group_spent loose n xs x s e l)) ∙ group_there n xs x e)
+
+-- a loose name more or less
+pub firm_no_loose : (loose : ℕ → Bool) (c : ℕ) (xs : List Named) → loose c ≡ true → without_name c (firm_names loose xs) ≡ firm_names loose xs
+firm_no_loose loose c [] l = refl
+firm_no_loose loose c (x ∷ xs) l = decide (loose x.name) refl (firm_no_loose loose c xs l)
+  where
+    differs : loose x.name ≡ false → nat_eq x.name c ≡ false
+    differs h = by_case (nat_eq x.name c) refl
+      where
+        by_case : (b : Bool) → nat_eq x.name c ≡ b → nat_eq x.name c ≡ false
+        by_case false e = e
+        by_case true e = absurd (false≢true (sym h ∙ ap loose (same_name x.name c e) ∙ l))
+
+    decide : (b : Bool) → loose x.name ≡ b → without_name c (firm_names loose xs) ≡ firm_names loose xs → without_name c (firm_names loose (x ∷ xs)) ≡ firm_names loose (x ∷ xs)
+    decide true h ih = ap (without_name c) (firm_loose loose x xs h) ∙ ih ∙ sym (firm_loose loose x xs h)
+    decide false h ih = ap (without_name c) (firm_kept loose x xs h) ∙ without_other c (name_as_taken x) (firm_names loose xs) (differs h) ∙ ap (λ ys. name_as_taken x ∷ ys) ih ∙ sym (firm_kept loose x xs h)
+
+-- a name that holds the same again
+without_above : (c : ℕ) (xs : List Named) → AllAbove c xs → without_name c xs ≡ xs
+without_above c [] a = refl
+without_above c (x ∷ xs) a = without_other c x xs (apart c x.name a.0) ∙ ap (λ ys. x ∷ ys) (without_above c xs a.1)
+  where
+    apart : (n m : ℕ) → n < m → nat_eq m n ≡ false
+    apart n m l = grind (arith, nat_tests)
+
+held_above : (n c : ℕ) (xs : List Named) → AllAbove n xs → is_some (held_at c xs) ≡ true → n < c
+held_above n c [] a h = absurd (false≢true h)
+held_above n c (x ∷ xs) a h = decide (nat_eq x.name c) refl (held_above n c xs a.1)
+  where
+    decide : (b : Bool) → nat_eq x.name c ≡ b → (is_some (held_at c xs) ≡ true → n < c) → n < c
+    decide true e ih = subst (λ (m : ℕ). n < m) (same_name x.name c e) a.0
+    decide false e ih = ih (sym (ap is_some (held_later c x xs e)) ∙ h)
+
+not_less : (n m : ℕ) → n < m → nat_lt m n ≡ false
+not_less n m l = grind (arith, nat_tests)
+
+pub named_again : (c : ℕ) (h : Held) (xs : List Named) → AreRising xs → held_at c xs ≡ Some h → with_new (record { name = c; held = h }) (without_name c xs) ≡ xs
+named_again c h [] r e = absurd (false≢true (ap is_some e))
+named_again c h (x ∷ xs) r e = decide (nat_eq x.name c) refl (named_again c h xs r.1)
+  where
+    held_or : Option Held → Held
+    held_or None = h
+    held_or (Some k) = k
+
+    decide : (b : Bool) → nat_eq x.name c ≡ b → (held_at c xs ≡ Some h → with_new (record { name = c; held = h }) (without_name c xs) ≡ xs) → with_new (record { name = c; held = h }) (without_name c (x ∷ xs)) ≡ x ∷ xs
+    decide true d ih =
+        let y : Named = record { name = c; held = h } in
+        let same = same_name x.name c d in
+        let above = subst (λ (m : ℕ). AllAbove m xs) same r.0 in
+        let one : x ≡ y = ap (λ (m : ℕ). let z : Named = record { name = m; held = x.held } in z) same ∙ ap (λ (k : Held). let z : Named = record { name = c; held = k } in z) (ap held_or (sym (held_here c x xs d) ∙ e)) in
+        ap (with_new y) (without_here c x xs d ∙ without_above c xs above) ∙ front y xs above ∙ ap (λ (z : Named). z ∷ xs) (sym one)
+    decide false d ih =
+        let y : Named = record { name = c; held = h } in
+        let rest = sym (held_later c x xs d) ∙ e in
+        let less = held_above x.name c xs r.0 (ap is_some rest) in
+        ap (with_new y) (without_other c x xs d) ∙ with_after y x (without_name c xs) (not_less x.name c less) ∙ ap (λ ys. x ∷ ys) (ih rest)
+
+pub rising_firm : (loose : ℕ → Bool) (xs : List Named) → AreRising xs → AreRising (firm_names loose xs)
+rising_firm loose [] r = tt
+rising_firm loose (x ∷ xs) r = decide (loose x.name) refl (rising_firm loose xs r.1)
+  where
+    decide : (b : Bool) → loose x.name ≡ b → AreRising (firm_names loose xs) → AreRising (firm_names loose (x ∷ xs))
+    decide true e ih = subst AreRising (sym (firm_loose loose x xs e)) ih
+    decide false e ih = subst AreRising (sym (firm_kept loose x xs e)) (above_firm loose x.name xs r.0, ih)
