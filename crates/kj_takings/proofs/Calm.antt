@@ -124,3 +124,12 @@ quietly loose op h = calm_tame loose (silent op) (quiet op) (tame_world loose op
 
 pub gone_calm : (loose : ℕ → Bool) (n : ℕ) → CalmOnly loose 0 (gone n)
 gone_calm loose n = calm_tame loose (gone n) (λ s. (Free n ∷ [], refl)) (tame_gone loose n)
+
+-- the same change
+pub calm_as : {A : Type 0} (loose : ℕ → Bool) (c : ℕ) (f g : State → State × A) → ((s : State) → f s ≡ g s) → Calm loose c f → Calm loose c g
+calm_as {A = A} loose c f g h x = record {
+  grows = λ s. let a = x.grows s in (a.0, ap (λ (r : State × A). r.0.past) (sym (h s)) ∙ a.1);
+  keeps = λ s t k e r.
+      let y = x.keeps s t k e r in
+      (subst (λ (u : State × A). Same loose k u.0 (g t).0) (h s) (subst (λ (u : State × A). Same loose k (f s).0 u.0) (h t) y.0), ap (λ (u : State × A). u.1) (sym (h s)) ∙ y.1 ∙ ap (λ (u : State × A). u.1) (h t));
+}

@@ -6,3 +6,5 @@ pub mod Effects
 pub mod Refusals
 pub mod Values
 pub mod Fires
+pub mod Turns
+pub mod Closing
