@@ -8,3 +8,4 @@ pub mod Values
 pub mod Fires
 pub mod Turns
 pub mod Closing
+pub mod Beside

@@ -28,7 +28,7 @@ use Rattle.kj_takings.proofs.Frees.{free_tame}
 use Rattle.kj_takings.proofs.Refusals.{is_ask, AllFair, apply_same}
 
 -- commands of a step
-asks_none : (us : List Use) → list_any (λ (u : Use). is_ask u.role) us ≡ false → (loose : ℕ → Bool) (w v : World) → AllFair loose w v us
+pub asks_none : (us : List Use) → list_any (λ (u : Use). is_ask u.role) us ≡ false → (loose : ℕ → Bool) (w v : World) → AllFair loose w v us
 asks_none [] e loose w v = tt
 asks_none (u ∷ us) e loose w v =
     let p = parts (is_ask u.role) (list_any (λ (x : Use). is_ask x.role) us) e in
@@ -38,7 +38,7 @@ asks_none (u ∷ us) e loose w v =
     parts false b h = (refl, h)
     parts true b h = absurd (false≢true (sym h))
 
-no_asks : (sources : List ℕ) → list_any (λ (u : Use). is_ask u.role) (used_as IsSource sources) ≡ false
+pub no_asks : (sources : List ℕ) → list_any (λ (u : Use). is_ask u.role) (used_as IsSource sources) ≡ false
 no_asks [] = refl
 no_asks (source ∷ more) = no_asks more
 
