@@ -1,0 +1,11 @@
+pub mod Names
+pub mod Worlds
+pub mod Calm
+pub mod Frees
+pub mod Effects
+pub mod Refusals
+pub mod Values
+pub mod Fires
+pub mod Turns
+pub mod Closing
+pub mod Beside
