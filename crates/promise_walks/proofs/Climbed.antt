@@ -133,10 +133,10 @@ part_fits d k fs side tree behind count sum e less =
     let split : (left + 1) * (cost k + 1) ≡ left * (cost k + 1) + (cost k + 1) = omega arith in
     omega (arith, weigh_push d k fs f e, ap cost level, m, split)
 
-pub sides_fit : (d k : ℕ) (fs : List Pending) (count : ℕ) → d ≡ length fs + suc k → count < 18446744073709551616 → count * (cost k + 1) < cost (d - length fs)
+pub sides_fit : (d k : ℕ) (fs : List Pending) (count : ℕ) → d ≡ length fs + suc k → count < 256 → count * (cost k + 1) < cost (d - length fs)
 sides_fit d k fs c e h =
     let here : d - length fs ≡ suc k = omega (arith, e) in
-    let m : c * (cost k + 1) ≤ 18446744073709551615 * (cost k + 1) = mul-le-mul_right {m = c} {n = 18446744073709551615} (cost k + 1) (omega (arith, h)) in omega (arith, m, ap cost here)
+    let m : c * (cost k + 1) ≤ 255 * (cost k + 1) = mul-le-mul_right {m = c} {n = 255} (cost k + 1) (omega (arith, h)) in omega (arith, m, ap cost here)
 
 -- ---- plain nodes
 

@@ -6,5 +6,5 @@ pub cost_positive : (k : ℕ) → 0 < cost k
 cost_positive zero = omega arith
 cost_positive (suc k) = omega arith
 
-pub fits_cost : (c k : ℕ) → c < 18446744073709551616 → 1 + c * cost k < cost (suc k)
-fits_cost c k h = let m : c * cost k ≤ 18446744073709551615 * cost k = mul-le-mul_right {m = c} {n = 18446744073709551615} (cost k) (omega (arith, h)) in omega (arith, m)
+pub fits_cost : (c k : ℕ) → c < 256 → 1 + c * cost k < cost (suc k)
+fits_cost c k h = let m : c * cost k ≤ 255 * cost k = mul-le-mul_right {m = c} {n = 255} (cost k) (omega (arith, h)) in omega (arith, m)

@@ -25,7 +25,7 @@ weigh_push zero k (x ∷ fs) f e = absurd (omega (arith, e))
 weigh_push (suc d) k (x ∷ fs) f e = let h = weigh_push d k fs f (omega (arith, e)) in omega (arith, h)
 
 -- the same for the stack
-pub pushed_weight : (d : ℕ) (fs : List Frame) (f : Frame) → length fs < d → f.parts.count < 18446744073709551616 → weigh d (fs ++ f ∷ []) < weigh d fs + cost (d - length fs)
+pub pushed_weight : (d : ℕ) (fs : List Frame) (f : Frame) → length fs < d → f.parts.count < 256 → weigh d (fs ++ f ∷ []) < weigh d fs + cost (d - length fs)
 pushed_weight d fs f h small =
     let k = d - length fs - 1 in
     let here : d - length fs ≡ suc k = omega (arith, h) in

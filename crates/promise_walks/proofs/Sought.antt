@@ -48,7 +48,7 @@ looked nodes n d xs node shape h other sees =
     ∙ ap (λ (j : ℕ). seek nodes n d xs || holds j nodes n node) (sym here)
 
 -- the weight of what is put on the search
-pub looked_weight : (d : ℕ) (xs : List Parts) (x : Parts) → length xs < d → x.count < 18446744073709551616 → weigh_parts d (xs ++ x ∷ []) < weigh_parts d xs + cost (d - length xs)
+pub looked_weight : (d : ℕ) (xs : List Parts) (x : Parts) → length xs < d → x.count < 256 → weigh_parts d (xs ++ x ∷ []) < weigh_parts d xs + cost (d - length xs)
 looked_weight d xs x h small =
     let k = d - length xs - 1 in
     let here : d - length xs ≡ suc k = omega (arith, h) in

@@ -59,10 +59,10 @@ node_of (Part side tree behind sum) = side.number.0
 abbrev pub ArePlain : (ℕ → Bool) → List Pending → Type 0
 ArePlain is_plain fs = AllByRecursion (λ (f : Pending). is_plain (node_of f) ≡ true) fs
 
--- no evaluation of a tree of this depth has more turns; a join has at most as many parts as a word can count
+-- no evaluation of a tree of this depth has more turns
 abbrev pub cost : ℕ → ℕ
 cost zero = 1
-cost (suc k) = 18446744073709551660 + 18446744073709551615 * cost k
+cost (suc k) = 300 + 255 * cost k
 
 -- how many turns come when a node on the stack goes on
 abbrev pub pending_weight : ℕ → Pending → ℕ

@@ -34,10 +34,10 @@ Enters Old New guard n frame = (k : ℕ) → Moves Old New (free_to guard (suc k
 abbrev pub AreUnlisted : (ℕ → Bool) → List Frame → Type 0
 AreUnlisted is_listed fs = AllByRecursion (λ (f : Frame). is_listed f.node.number.0 ≡ false) fs
 
--- no way to a node and back is longer; a node has at most as many parts as a word can count
+-- no way to a node and back is longer
 abbrev pub cost : ℕ → ℕ
 cost zero = 1
-cost (suc k) = 2 + 18446744073709551615 * cost k
+cost (suc k) = 2 + 255 * cost k
 
 -- no way through what is still to do is longer
 abbrev pub weigh : ℕ → List Frame → ℕ

@@ -36,7 +36,7 @@ fn count_falling<N: Nodes>(
     guard: Guard,
     hub: Link,
     is_last: bool,
-) -> u64
+) -> u8
     requires room { N.slots nodes.now + 1 ≤ vec_capacity search.old }
     ensures count { (w : World) → N.stands nodes.now w → result ≡ falls_count is_last (is_guarded (guard_of guard) hub.number.0 w) }
     ensures room { vec_capacity search.old ≤ vec_capacity search.new }

@@ -79,10 +79,7 @@ fn look_of_race(left: Link, winner: Option<NodeId>) -> Look
 fn look_of_join(is_fast: bool, first: Link, count: u8) -> Look
     ensures { IsLook result (Some (shown [] (Form.Join is_fast first count))) }
 {
-    let parts = Parts {
-        next: first,
-        count: u64::from(count),
-    };
+    let parts = Parts { next: first, count };
     if is_fast {
         Look::Kept(parts)
     } else {

@@ -10,12 +10,11 @@ use kj_base::{Content, Form, Link, NodeId, Slot, Stage};
 use promise_names::Leaving;
 use promise_nodes::Nodes;
 
-/// Nodes whose numbers follow each other, from the next one on. Only the slot of the first of them is known. The count is
-/// as wide as a word, so that a copy reads what was written as a whole.
+/// Nodes whose numbers follow each other, from the next one on. Only the slot of the first of them is known.
 #[derive(Clone, Copy, Debug, PartialEq, Eq)]
 pub struct Parts {
     pub next: Link,
-    pub count: u64,
+    pub count: u8,
 }
 
 // The parts of a node, what it leaves, and a branch's hub.
@@ -121,7 +120,7 @@ fn parts_of(form: &Form) -> Parts
         },
         Form::Join { first, count, .. } => Parts {
             next: *first,
-            count: u64::from(*count),
+            count: *count,
         },
         Form::Task { tree } => parts_of_tree(*tree),
         Form::Request { tree, .. } => parts_of_tree(*tree),
