@@ -1,5 +1,5 @@
 -- Calls beside one another.
-use Rattle.std.proofs.Common.{◌≡◌, ◌∙◌, refl, sym, ap, subst, zero, suc, ℕ, ◌+◌, ◌≤◌, List, [], ◌∷◌, ◌++◌, length, Bool, true, false, Option, None, Some, arith}
+use Rattle.std.proofs.Common.{◌≡◌, ◌∙◌, refl, sym, ap, zero, ℕ, ◌+◌, ◌≤◌, List, [], ◌∷◌, ◌++◌, length, Bool, true, false, Option, None, Some, arith}
 use Rattle.std.specs.Prelude.{is_some, drop}
 use Rattle.std.proofs.lemmas.Bool.{false≢true}
 use Rattle.kj_base.specs.Commands.{Command, All, Fast, Reply}
@@ -11,15 +11,11 @@ use Rattle.kj_model.specs.Grown.{Grows}
 use Rattle.kj_model.specs.Uses.{uses_of}
 use Rattle.kj_model.specs.Apply.{Refused, apply}
 use Rattle.kj_model.specs.Calls.{Call, CallApply, CallTurn, CallRun, CallWait, CallTakeAsk, CallTakeEnded, CallTakeAbandoned, CallClose, Reply as ReplyOf, Applied, TurnedBy, WaitedBy, Closed, turn, run, wait, close, call, calls}
-use Rattle.kj_model.proofs.Growing.{apply_grows}
-use Rattle.kj_model.proofs.Called.{wait_grows}
-use Rattle.kj_ownership.specs.Kept.{TakesSpent}
 use Rattle.kj_takings.specs.Alike.{Alike, AlikeStates, Sorted, AreRising}
-use Rattle.kj_takings.specs.Spared.{names_of, names_in, spares, spared_in, HasRoom}
-use Rattle.kj_takings.specs.Calls.{is_taking, told_since, names_of_call, RepliesFair, CallFair, but_why, wait_but_why, reply_but_why, loosened_by, name_freed, firmed, none_loose, CallFits, Step, Both, Left, Right, Settled, left_calls, right_calls, TakingFits, IsNowhere, StepsFit, loose_after, plain_replies}
-use Rattle.kj_takings.proofs.Worlds.{Near}
+use Rattle.kj_takings.specs.Spared.{names_of, names_in, spared_in, HasRoom}
+use Rattle.kj_takings.specs.Calls.{is_taking, told_since, RepliesFair, but_why, wait_but_why, reply_but_why, loosened_by, name_freed, firmed, none_loose, CallFits, Step, Both, Left, Right, Settled, left_calls, right_calls, TakingFits, IsNowhere, StepsFit, loose_after, plain_replies}
 use Rattle.kj_takings.proofs.Calm.{Same, Calm, less_same}
-use Rattle.kj_takings.proofs.Refusals.{AllFair, apply_same, near_back}
+use Rattle.kj_takings.proofs.Refusals.{AllFair, apply_same}
 use Rattle.kj_takings.proofs.Values.{asks_none, no_asks}
 use Rattle.kj_takings.proofs.Turns.{turn_calm, run_calm, wait_calm, wait_loose}
 use Rattle.kj_takings.proofs.Closing.{close_tame, ask_alike, ended_alike, abandoned_alike, narrowed}

@@ -1,13 +1,13 @@
 -- Changes of states that keep them alike, put together.
 use Rattle.std.proofs.lemmas.Bool.{false≢true}
 use Rattle.kj_model.proofs.Growing.{stays, quiet}
-use Rattle.std.proofs.Common.{◌≡◌, ◌∙◌, refl, sym, ap, subst, append_assoc, zero, suc, ℕ, ◌+◌, ◌≤◌, List, [], ◌∷◌, ◌++◌, Bool, true, false, ◌&&◌, arith}
+use Rattle.std.proofs.Common.{◌≡◌, ◌∙◌, refl, sym, ap, subst, append_assoc, ℕ, ◌+◌, ◌≤◌, List, [], ◌∷◌, ◌++◌, Bool, true, false, ◌&&◌, arith}
 use Rattle.kj_base.specs.Record.{Item, Run, Free}
 use Rattle.kj_model.specs.World.{World, State}
 use Rattle.kj_model.specs.Changes.{silent, gone, gone_world}
 use Rattle.kj_model.specs.Grown.{Grows}
 use Rattle.kj_takings.specs.Alike.{Lists, with_lists}
-use Rattle.kj_takings.specs.Spared.{names_in, names_of_all, spared_in, all_spare}
+use Rattle.kj_takings.specs.Spared.{names_in, spared_in, all_spare}
 use Rattle.kj_takings.proofs.Worlds.{Near, Keeps, blind, less_room, read_alike}
 
 -- states that are alike, with room for so many names more

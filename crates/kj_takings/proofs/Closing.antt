@@ -1,23 +1,22 @@
 -- Taking, and closing, of worlds that are alike.
-use Rattle.std.proofs.Common.{◌≡◌, ◌∙◌, refl, sym, ap, subst, zero, suc, ℕ, ◌+◌, ◌≤◌, ◌<◌, List, [], ◌∷◌, length, Bool, true, false, ◌||◌, ◌&&◌, ◌==◌, Option, None, Some, arith, reverse}
+use Rattle.std.proofs.Common.{◌≡◌, ◌∙◌, refl, sym, ap, subst, ℕ, ◌<◌, List, [], ◌∷◌, Bool, true, false, ◌||◌, ◌&&◌, ◌==◌, Option, None, Some, arith, reverse}
 use Rattle.std.specs.Prelude.{is_some, nat_eq, filter, not, cond}
 use Rattle.std.proofs.lemmas.Bool.{false≢true}
 use Rattle.std.proofs.lemmas.Bool.Decides.{nat_tests}
-use Rattle.kj_model.specs.Nodes.{Entry, Form}
-use Rattle.kj_model.specs.World.{World, State, Named, Held, Promise, CellOf, AskCell, HubOf, Group, Canceler, RequestOf, Awaited, Asked, Ended, held_at}
-use Rattle.kj_model.specs.Changes.{silent, named, unnamed, without_name, with_new}
+use Rattle.kj_model.specs.World.{World, State, Named, Held, Promise, CellOf, AskCell, HubOf, Group, Canceler, RequestOf, Asked, Ended, held_at}
+use Rattle.kj_model.specs.Changes.{silent, unnamed, without_name, with_new}
 use Rattle.kj_model.specs.Free.{Holding, Every, free, each_freed, reference_gone}
 use Rattle.kj_model.specs.Effects.{hub_unnamed}
-use Rattle.kj_model.specs.Calls.{closed_held, each_closed, hubs_of, hubs_closed, detached_closed, names_closed, left_over_closed, close, ask_taken_in, ask_taken, take_ask_of, take_ask, take_ended_of, take_ended, take_abandoned_of, take_abandoned}
+use Rattle.kj_model.specs.Calls.{closed_held, each_closed, hubs_of, hubs_closed, detached_closed, names_closed, left_over_closed, close, ask_taken_in, take_ask_of, take_ended_of, take_abandoned_of}
 use Rattle.kj_ownership.specs.Kept.{is_spent}
 use Rattle.kj_takings.specs.Alike.{Lists, with_lists, as_taken, name_as_taken, firm_names, AllAbove, AreRising, LooseAreSpent, Sorted, Alike}
 use Rattle.kj_takings.specs.Calls.{firmed, loosened, loosened_by, first_request, first_cell}
-use Rattle.kj_takings.proofs.Names.{found_taken, firm_loose, firm_kept, firm_without, sorted_without, length_without, length_present, absent_without, sorted_with, length_with, firm_with, firm_with_loose, held_firm, held_spent, firm_no_loose, named_again, rising_firm, same_name}
-use Rattle.kj_takings.proofs.Worlds.{Near, Keeps, read_alike, unnamed_near}
+use Rattle.kj_takings.proofs.Names.{found_taken, firm_loose, firm_kept, firm_without, sorted_without, length_without, absent_without, sorted_with, firm_with, firm_with_loose, held_firm, held_spent, firm_no_loose, named_again, rising_firm, same_name}
+use Rattle.kj_takings.proofs.Worlds.{Near, read_alike, unnamed_near}
 use Rattle.kj_takings.proofs.Calm.{Same, Tame, tame_none, tame_then, tame_read, tame_world}
 use Rattle.kj_takings.proofs.Frees.{each_tame, reference_tame, free_tame}
 use Rattle.kj_takings.proofs.Effects.{hub_near}
-use Rattle.kj_takings.proofs.Refusals.{near_back, same_back}
+use Rattle.kj_takings.proofs.Refusals.{same_back}
 
 -- one side has other lists
 pub relisted : (loose : ℕ → Bool) (l : Lists) (w v : World) → firm_names loose l.names ≡ firm_names loose w.names → Sorted loose l.names → Alike loose w v → Alike loose (with_lists l w) v

@@ -1,6 +1,6 @@
 -- The effect of a command keeps states alike, where its names are firm.
-use Rattle.std.proofs.Common.{◌≡◌, ◌∙◌, refl, sym, ap, subst, zero, suc, ℕ, ◌+◌, ◌≤◌, List, [], ◌∷◌, ◌++◌, length, Bool, true, false, Option, None, Some, arith, reverse}
-use Rattle.std.specs.Prelude.{is_some, map}
+use Rattle.std.proofs.Common.{◌≡◌, ◌∙◌, refl, sym, ap, subst, suc, ℕ, ◌+◌, List, [], ◌∷◌, ◌++◌, Bool, true, false, Option, None, Some, arith, reverse}
+use Rattle.std.specs.Prelude.{is_some}
 use Rattle.std.proofs.lemmas.Bool.{false≢true}
 use Rattle.kj_base.specs.declared.outcomes.Outcome.{Outcome}
 use Rattle.kj_base.specs.declared.outcomes.Outcome.TheVariants.{Value, Broken as BrokenBy}
@@ -12,15 +12,14 @@ use Rattle.kj_model.specs.World.{World, State, Held, Promise, CellOf, AskCell, H
 use Rattle.kj_model.specs.Changes.{silent, put, named, unnamed}
 use Rattle.kj_model.specs.Places.{built}
 use Rattle.kj_model.specs.Listening.{listened, settled, announced}
-use Rattle.kj_model.specs.Free.{Guard, free, each_freed, reference_gone, guarded_too}
+use Rattle.kj_model.specs.Free.{Guard, free, each_freed, guarded_too}
 use Rattle.kj_model.specs.Uses.{Use, IsSource, used_as, uses_of}
 use Rattle.kj_model.specs.Effects.{node_of, node_named, leaf_built, over_built, over_named, over_listening, chain_built, fork_built, with_branch_in, branch_built, sides_built, numbers_from, each_listened, trees_named, race_built, join_built, cell_settled, cell_dropped, added_in, added, with_detached, detached_built, emptied, now_empty, cleared_in, cleared, empty_built_in, empty_built, wrapped_in, wrap_built, disarmed_node, wrap_cancelled, each_cancelled, wraps_of, canceled, hub_unnamed_in, hub_unnamed, dropped_held, with_ask, ask_built, request_built, with_ended, stopped_request, without_abandoned, replied, effect}
 use Rattle.kj_ownership.specs.Kept.{is_spent}
-use Rattle.kj_takings.specs.Alike.{Lists, with_lists}
 use Rattle.kj_takings.specs.Spared.{names_of}
 use Rattle.kj_takings.proofs.Names.{found_taken}
 use Rattle.kj_takings.proofs.Worlds.{Near, Keeps, Both, blind, less_room, held_alike, read_alike, announced_near, listened_near, put_near, settled_near, built_near, unnamed_near, new_near, named_near, lists_near, by_held}
-use Rattle.kj_takings.proofs.Calm.{Same, Tame, tame_none, tame_then, tame_read, tame_world, less_same}
+use Rattle.kj_takings.proofs.Calm.{Same, Tame, tame_none, tame_then, tame_world, less_same}
 use Rattle.kj_takings.proofs.Frees.{by_form, by_form_near, each_tame, reference_tame, free_tame}
 
 -- each of these names is firm
@@ -94,19 +93,19 @@ chain_near : (loose : ℕ → Bool) (name source : ℕ) (x e : Option ℕ) (k : 
 chain_near loose name source x e k f g =
     let form : ℕ → Form = λ t. ThenNode x e (Some t) in
     by_next loose (suc k) k (λ n w. listened n (named name (Promise (n + 1)) (built (Some n) (ChainNode n) (over_built form source w)))) (λ n w v r.
-        let a = over_near loose form source (suc k) g w v r in
-        let b = built_near loose (Some n) (ChainNode n) (suc k) (over_built form source w) (over_built form source v) a in
-        let c = new_firm loose name (Promise (n + 1)) k f (built (Some n) (ChainNode n) (over_built form source w)) (built (Some n) (ChainNode n) (over_built form source v)) b in
-        listened_near loose n k (named name (Promise (n + 1)) (built (Some n) (ChainNode n) (over_built form source w))) (named name (Promise (n + 1)) (built (Some n) (ChainNode n) (over_built form source v))) c)
+    let a = over_near loose form source (suc k) g w v r in
+    let b = built_near loose (Some n) (ChainNode n) (suc k) (over_built form source w) (over_built form source v) a in
+    let c = new_firm loose name (Promise (n + 1)) k f (built (Some n) (ChainNode n) (over_built form source w)) (built (Some n) (ChainNode n) (over_built form source v)) b in
+    listened_near loose n k (named name (Promise (n + 1)) (built (Some n) (ChainNode n) (over_built form source w))) (named name (Promise (n + 1)) (built (Some n) (ChainNode n) (over_built form source v))) c)
 
 fork_near : (loose : ℕ → Bool) (hub source k : ℕ) → loose hub ≡ false → loose source ≡ false → Moves loose (suc k) k (fork_built hub source)
 fork_near loose hub source k f g = by_node loose source (suc k) k (λ t w. listened t (named hub (HubOf w.next) (built None (Hub (Tree t) true []) (unnamed source w)))) g (λ t.
     let form : Form = Hub (Tree t) true [] in
     by_next loose (suc k) k (λ n w. listened t (named hub (HubOf n) (built None form (unnamed source w)))) (λ n w v r.
-        let a = unnamed_near loose source (suc k) w v r in
-        let b = built_near loose None form (suc k) (unnamed source w) (unnamed source v) a in
-        let c = new_firm loose hub (HubOf n) k f (built None form (unnamed source w)) (built None form (unnamed source v)) b in
-        listened_near loose t k (named hub (HubOf n) (built None form (unnamed source w))) (named hub (HubOf n) (built None form (unnamed source v))) c))
+    let a = unnamed_near loose source (suc k) w v r in
+    let b = built_near loose None form (suc k) (unnamed source w) (unnamed source v) a in
+    let c = new_firm loose hub (HubOf n) k f (built None form (unnamed source w)) (built None form (unnamed source v)) b in
+    listened_near loose t k (named hub (HubOf n) (built None form (unnamed source w))) (named hub (HubOf n) (built None form (unnamed source v))) c))
 
 branch_case : (loose : ℕ → Bool) (n hub : ℕ) (o : Option Form) → Keeps loose (with_branch_in n hub o)
 branch_case loose n hub (Some (Hub content is_named branches)) = put_near loose hub (Hub content is_named (branches ++ n ∷ []))
@@ -116,9 +115,9 @@ branch_case loose n hub (Some _) = λ k w v r. r
 branch_near : (loose : ℕ → Bool) (name hub k : ℕ) → loose name ≡ false → loose hub ≡ false → Moves loose (suc k) k (branch_built name hub)
 branch_near loose name hub k f g = by_node loose hub (suc k) k (λ h w. with_branch_in w.next h (form_at h w.nodes) (leaf_built name (BranchNode h) w)) g (λ h.
     by_next loose (suc k) k (λ n w. with_branch_in n h (form_at h w.nodes) (leaf_built name (BranchNode h) w)) (λ n w v r.
-        let a = leaf_near loose name (BranchNode h) k f w v r in
-        let same = read_alike loose (suc k) (λ u. form_at h u.nodes) w v (λ l u. refl) r in
-        subst (λ (o : Option Form). Near loose k (with_branch_in n h (form_at h w.nodes) (leaf_built name (BranchNode h) w)) (with_branch_in n h o (leaf_built name (BranchNode h) v))) same (branch_case loose n h (form_at h w.nodes) k (leaf_built name (BranchNode h) w) (leaf_built name (BranchNode h) v) a)))
+    let a = leaf_near loose name (BranchNode h) k f w v r in
+    let same = read_alike loose (suc k) (λ u. form_at h u.nodes) w v (λ l u. refl) r in
+    subst (λ (o : Option Form). Near loose k (with_branch_in n h (form_at h w.nodes) (leaf_built name (BranchNode h) w)) (with_branch_in n h o (leaf_built name (BranchNode h) v))) same (branch_case loose n h (form_at h w.nodes) k (leaf_built name (BranchNode h) w) (leaf_built name (BranchNode h) v) a)))
 
 -- joins
 sides_near : (loose : ℕ → Bool) (sources : List ℕ) (k : ℕ) → AllFirm loose (used_as IsSource sources) → Moves loose k k (sides_built sources)
@@ -177,20 +176,20 @@ added_near : (loose : ℕ → Bool) (group source k : ℕ) → loose group ≡ f
 added_near loose group source k f g =
     let form : ℕ → Form = λ root. Task (Some root) in
     by_node loose source (suc k) k (λ t w. listened t (added_in group w.next (held_at group w.names) (over_built form source w))) g (λ t.
-        by_next loose (suc k) k (λ n w. listened t (added_in group n (held_at group w.names) (over_built form source w))) (λ n.
-            by_firm loose group (suc k) k (λ h w. listened t (added_in group n h (over_built form source w))) f (λ h w. ap (listened t) (added_untold group n h (over_built form source w))) (λ h w v r.
-                let a = over_near loose form source (suc k) g w v r in
-                let b = added_case loose group n k h f (over_built form source w) (over_built form source v) a in
-                listened_near loose t k (added_in group n h (over_built form source w)) (added_in group n h (over_built form source v)) b)))
+    by_next loose (suc k) k (λ n w. listened t (added_in group n (held_at group w.names) (over_built form source w))) (λ n.
+    by_firm loose group (suc k) k (λ h w. listened t (added_in group n h (over_built form source w))) f (λ h w. ap (listened t) (added_untold group n h (over_built form source w))) (λ h w v r.
+    let a = over_near loose form source (suc k) g w v r in
+    let b = added_case loose group n k h f (over_built form source w) (over_built form source v) a in
+    listened_near loose t k (added_in group n h (over_built form source w)) (added_in group n h (over_built form source v)) b)))
 
 detached_near : (loose : ℕ → Bool) (source k : ℕ) → loose source ≡ false → Moves loose k k (detached_built source)
 detached_near loose source k f =
     let form : ℕ → Form = λ root. Task (Some root) in
     by_node loose source k k (λ t w. listened t (with_detached w.next (over_built form source w))) f (λ t.
-        by_next loose k k (λ n w. listened t (with_detached n (over_built form source w))) (λ n w v r.
-            let a = over_near loose form source k f w v r in
-            let b = blind loose (with_detached n) (λ l u. refl) (λ u. record { names = refl; limits = refl; awaited = refl }) k (over_built form source w) (over_built form source v) a in
-            listened_near loose t k (with_detached n (over_built form source w)) (with_detached n (over_built form source v)) b))
+    by_next loose k k (λ n w. listened t (with_detached n (over_built form source w))) (λ n w v r.
+    let a = over_near loose form source k f w v r in
+    let b = blind loose (with_detached n) (λ l u. refl) (λ u. record { names = refl; limits = refl; awaited = refl }) k (over_built form source w) (over_built form source v) a in
+    listened_near loose t k (with_detached n (over_built form source w)) (with_detached n (over_built form source v)) b))
 
 emptied_untold : (group : ℕ) (h : Option Held) (w : World) → emptied group (found_taken h) w ≡ emptied group h w
 emptied_untold group (Some (Group error tasks empty)) w = refl
@@ -265,11 +264,11 @@ wrap_near : (loose : ℕ → Bool) (name c source k : ℕ) → loose name ≡ fa
 wrap_near loose name c source k f g h =
     let form : ℕ → Form = λ t. WrapNode c (Tree t) in
     by_node loose source (suc (suc k)) k (λ t w. listened t (wrapped_in c w.next (held_at c w.names) (over_named name form source w))) h (λ t.
-        by_next loose (suc (suc k)) k (λ n w. listened t (wrapped_in c n (held_at c w.names) (over_named name form source w))) (λ n.
-            by_firm loose c (suc (suc k)) k (λ o w. listened t (wrapped_in c n o (over_named name form source w))) g (λ o w. ap (listened t) (wrapped_untold c n o (over_named name form source w))) (λ o w v r.
-                let a = over_named_near loose name form source (suc k) f h w v r in
-                let b = wrapped_case loose c n k o g (over_named name form source w) (over_named name form source v) a in
-                listened_near loose t k (wrapped_in c n o (over_named name form source w)) (wrapped_in c n o (over_named name form source v)) b)))
+    by_next loose (suc (suc k)) k (λ n w. listened t (wrapped_in c n (held_at c w.names) (over_named name form source w))) (λ n.
+    by_firm loose c (suc (suc k)) k (λ o w. listened t (wrapped_in c n o (over_named name form source w))) g (λ o w. ap (listened t) (wrapped_untold c n o (over_named name form source w))) (λ o w v r.
+    let a = over_named_near loose name form source (suc k) f h w v r in
+    let b = wrapped_case loose c n k o g (over_named name form source w) (over_named name form source v) a in
+    listened_near loose t k (wrapped_in c n o (over_named name form source w)) (wrapped_in c n o (over_named name form source v)) b)))
 
 disarmed_near : (loose : ℕ → Bool) (n : ℕ) → Keeps loose (disarmed_node n)
 disarmed_near loose n = blind loose (disarmed_node n) (λ l u. refl) (λ u. record { names = refl; limits = refl; awaited = refl })

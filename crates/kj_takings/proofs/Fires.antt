@@ -1,22 +1,21 @@
 -- Events that fire keep states alike.
-use Rattle.std.proofs.Common.{◌≡◌, ◌∙◌, refl, sym, ap, subst, zero, suc, ℕ, ◌+◌, ◌≤◌, List, [], ◌∷◌, ◌++◌, Bool, true, false, ◌==◌, Option, None, Some, arith}
-use Rattle.std.proofs.lemmas.Bool.{false≢true}
+use Rattle.std.proofs.Common.{◌≡◌, ◌∙◌, refl, sym, ap, subst, suc, ℕ, ◌+◌, List, [], ◌∷◌, ◌++◌, Bool, true, false, ◌==◌, Option, None, Some, arith}
 use Rattle.kj_base.specs.declared.outcomes.Outcome.{Outcome}
 use Rattle.kj_base.specs.declared.outcomes.Outcome.TheVariants.{Value, Broken}
 use Rattle.kj_base.specs.Queue.{DepthFirst}
 use Rattle.kj_model.specs.Nodes.{Form, Content, Tree, Kept, Stage, Waits, Fired, Keeps as KeepsOutcome, Gone, Ready, Chain, Eager, Wrap, Hub, Side, Race, Join, Task, Request, Entry, form_at, owner_of, dropped, kept_form}
-use Rattle.kj_model.specs.World.{World, State, Setting, Named, Held, RequestOf, held_at}
+use Rattle.kj_model.specs.World.{World, State, Setting, Named, RequestOf}
 use Rattle.kj_model.specs.Changes.{silent, put, gone, named}
 use Rattle.kj_model.specs.Listening.{announced, listened, join_ready}
-use Rattle.kj_model.specs.Effects.{with_ended, now_empty}
+use Rattle.kj_model.specs.Effects.{with_ended}
 use Rattle.kj_model.specs.Value.{Given, Gave, Took, value, value_link, freed, run_step}
-use Rattle.kj_model.specs.Fire.{replaced, chain_ended, kept_at, keeps, kept_then, kept_from, each_announced, branches_of, branches_announced, other_side, tree_freed, race_won, race_fired, announced_if, all_fired, fast_announced, fast_fired, join_fired, side_fired_under, side_fired_by, side_fired, without_task, group_of, group_error, group_left, set_left, without_left_over, task_gone, task_stepped, error_run, task_ended, task_left, task_valued, request_valued, fire_form, with_firing, fire}
+use Rattle.kj_model.specs.Fire.{replaced, chain_ended, kept_at, keeps, kept_then, kept_from, each_announced, branches_of, branches_announced, other_side, tree_freed, race_won, race_fired, announced_if, all_fired, fast_announced, join_fired, side_fired_under, side_fired_by, side_fired, without_task, group_of, group_error, group_left, set_left, without_left_over, task_gone, task_stepped, error_run, task_ended, task_left, task_valued, request_valued, fire_form, with_firing, fire}
 use Rattle.kj_model.proofs.Growing.{quiet}
 use Rattle.kj_ownership.specs.Kept.{is_spent}
-use Rattle.kj_takings.specs.Alike.{Lists, with_lists}
+use Rattle.kj_takings.specs.Alike.{with_lists}
 use Rattle.kj_takings.proofs.Names.{group_firm, group_present, group_no_loose}
-use Rattle.kj_takings.proofs.Worlds.{Near, Keeps, blind, seen_as, read_alike, announced_near, listened_near, put_near, new_near, named_near, replaced_near}
-use Rattle.kj_takings.proofs.Calm.{Same, Calm, CalmOnly, only, pure, bind, then_calm, reads, reads_world, quietly, gone_calm, calm_more, calm_moves, less_same}
+use Rattle.kj_takings.proofs.Worlds.{Near, Keeps, blind, seen_as, announced_near, listened_near, put_near, new_near, named_near, replaced_near}
+use Rattle.kj_takings.proofs.Calm.{CalmOnly, only, pure, bind, then_calm, reads, reads_world, quietly, gone_calm, calm_more, calm_moves, less_same}
 use Rattle.kj_takings.proofs.Frees.{by_form_near}
 use Rattle.kj_takings.proofs.Effects.{empty_near, one_ended}
 use Rattle.kj_takings.proofs.Values.{value_calm, link_calm, freed_calm, run_step_calm, form_reads}
@@ -70,9 +69,9 @@ won_calm loose race left right side other t =
     let first : World → World = λ w. put race (Race left right (Some side)) (put side (Side (Fired t)) w) in
     let last : World → World = λ w. announced DepthFirst race (put other (Side Gone) w) in
     bind loose 0 0 (λ s. (s, form_at other s.world.nodes)) (λ o. only (λ s. silent last (tree_freed o (silent first s)))) (form_reads loose other) (λ o.
-        then_calm loose (λ s. tree_freed o (silent first s)) (silent last)
-        (then_calm loose (silent first) (tree_freed o) (quietly loose first (two_put loose race side (Race left right (Some side)) (Side (Fired t)))) (tree_calm loose o))
-        (quietly loose last (λ k w v r. announced_near loose DepthFirst race k (put other (Side Gone) w) (put other (Side Gone) v) (put_near loose other (Side Gone) k w v r))))
+    then_calm loose (λ s. tree_freed o (silent first s)) (silent last)
+    (then_calm loose (silent first) (tree_freed o) (quietly loose first (two_put loose race side (Race left right (Some side)) (Side (Fired t)))) (tree_calm loose o))
+    (quietly loose last (λ k w v r. announced_near loose DepthFirst race k (put other (Side Gone) w) (put other (Side Gone) v) (put_near loose other (Side Gone) k w v r))))
 
 race_calm : (loose : ℕ → Bool) (race left right : ℕ) (winner : Option ℕ) (side t : ℕ) → CalmOnly loose 0 (race_fired race left right winner side t)
 race_calm loose race left right None side t = won_calm loose race left right side (other_side (left == side) left right) t
@@ -166,11 +165,11 @@ request_calm loose n name t None = calm_more loose 0 1 (only (λ s. s)) (omega a
 request_calm loose n name t (Some o) =
     let op : World → World = λ w. named name (RequestOf None) (with_ended name o w) in
     bind loose 0 1 (only (freed t)) (λ a. only (λ s. gone n (silent op s))) (freed_calm loose t) (λ a.
-        bind loose 1 0 (only (silent op)) (λ b. only (gone n))
-        (calm_moves loose 1 (only (silent op)) (quiet op) (λ k s u r.
-            let x = less_same loose (1 + k) (suc k) s u (omega arith) r in
-            (record { world = new_near loose name (RequestOf None) k (with_ended name o s.world) (with_ended name o u.world) (λ l. refl) (one_ended loose name o (suc k) s.world u.world x.world); past = x.past }, refl)))
-        (λ b. gone_calm loose n))
+    bind loose 1 0 (only (silent op)) (λ b. only (gone n))
+    (calm_moves loose 1 (only (silent op)) (quiet op) (λ k s u r.
+    let x = less_same loose (1 + k) (suc k) s u (omega arith) r in
+    (record { world = new_near loose name (RequestOf None) k (with_ended name o s.world) (with_ended name o u.world) (λ l. refl) (one_ended loose name o (suc k) s.world u.world x.world); past = x.past }, refl)))
+    (λ b. gone_calm loose n))
 
 -- each form
 calm_one : (loose : ℕ → Bool) (f : State → State) → CalmOnly loose 0 f → CalmOnly loose 1 f
@@ -195,5 +194,5 @@ firing_near loose o = blind loose (with_firing o) (λ l w. refl) (λ w. record {
 pub fire_calm : (loose : ℕ → Bool) (setting : Setting) (n : ℕ) → CalmOnly loose 1 (fire setting n)
 fire_calm loose setting n =
     bind loose 0 1 (λ s. (s, form_at n s.world.nodes)) (λ o. only (λ s. silent (with_firing None) (fire_form setting n o (silent (with_firing (Some n)) s)))) (form_reads loose n) (λ o.
-        bind loose 0 1 (only (silent (with_firing (Some n)))) (λ a. only (λ s. silent (with_firing None) (fire_form setting n o s))) (quietly loose (with_firing (Some n)) (firing_near loose (Some n))) (λ a.
-            bind loose 1 0 (only (fire_form setting n o)) (λ b. only (silent (with_firing None))) (form_calm loose setting n o) (λ b. quietly loose (with_firing None) (firing_near loose None))))
+    bind loose 0 1 (only (silent (with_firing (Some n)))) (λ a. only (λ s. silent (with_firing None) (fire_form setting n o s))) (quietly loose (with_firing (Some n)) (firing_near loose (Some n))) (λ a.
+    bind loose 1 0 (only (fire_form setting n o)) (λ b. only (silent (with_firing None))) (form_calm loose setting n o) (λ b. quietly loose (with_firing None) (firing_near loose None))))

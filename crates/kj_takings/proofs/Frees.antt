@@ -1,16 +1,16 @@
 -- A free keeps states alike.
-use Rattle.std.proofs.Common.{◌≡◌, ◌∙◌, refl, sym, ap, subst, zero, suc, ℕ, ◌≤◌, List, [], ◌∷◌, ◌++◌, Bool, true, false, Option, None, Some, arith}
+use Rattle.std.proofs.Common.{◌≡◌, ◌∙◌, refl, sym, subst, zero, suc, ℕ, List, [], ◌∷◌, ◌++◌, Bool, true, false, Option, None, Some, arith}
 use Rattle.std.specs.Prelude.{is_some}
 use Rattle.std.proofs.lemmas.Bool.{false≢true}
-use Rattle.kj_model.specs.Nodes.{Form, Ready, Later, Last, Cell, Branch, Then, Chain, Eager, Wrap, Hub, Side, Race, Join, Task, Request, form_at, parts_of, dropped}
-use Rattle.kj_model.specs.World.{World, State, Named, Held, AskCell, Canceler, RequestOf, held_at, depth_of}
-use Rattle.kj_model.specs.Changes.{silent, put, gone}
-use Rattle.kj_model.specs.Free.{Guard, Holding, Every, is_guarded, free_unless, free_unreferenced, reference_gone, without_branch_in, without_branch, without_wrap_in, without_wrap, ask_of, abandoned_as, unlinked, each_freed, free_form, free_to, free, usual}
+use Rattle.kj_model.specs.Nodes.{Form, Cell, Branch, Wrap, Hub, form_at, parts_of, dropped}
+use Rattle.kj_model.specs.World.{World, State, Named, Held, Canceler, depth_of}
+use Rattle.kj_model.specs.Changes.{silent, gone}
+use Rattle.kj_model.specs.Free.{Guard, Holding, Every, is_guarded, free_unless, free_unreferenced, reference_gone, without_branch_in, without_branch, without_wrap_in, without_wrap, ask_of, abandoned_as, unlinked, each_freed, free_form, free_to, free}
 use Rattle.kj_ownership.specs.Kept.{is_spent}
 use Rattle.kj_takings.specs.Alike.{Lists, with_lists}
 use Rattle.kj_takings.proofs.Names.{found_taken}
-use Rattle.kj_takings.proofs.Worlds.{Near, Keeps, lists_near, read_alike, put_near, named_near, by_held, seen_as, Both}
-use Rattle.kj_takings.proofs.Calm.{Same, Tame, tame_none, tame_then, tame_read, tame_world, tame_gone}
+use Rattle.kj_takings.proofs.Worlds.{Near, Keeps, lists_near, put_near, named_near, by_held, seen_as, Both}
+use Rattle.kj_takings.proofs.Calm.{Tame, tame_none, tame_then, tame_read, tame_world, tame_gone}
 
 -- a change that goes by the form of a node
 pub by_form : (loose : ℕ → Bool) (n : ℕ) (op : Option Form → State → State) → ((o : Option Form) → Tame loose (op o)) → Tame loose (λ s. op (form_at n s.world.nodes) s)

@@ -9,3 +9,4 @@ pub mod Fires
 pub mod Turns
 pub mod Closing
 pub mod Beside
+pub mod Worked

@@ -1,10 +1,9 @@
 -- Names of two worlds that are alike.
-use Rattle.std.proofs.Common.{◌≡◌, ◌∙◌, refl, sym, ap, subst, zero, suc, ℕ, ◌+◌, ◌≤◌, ◌<◌, List, [], ◌∷◌, ◌++◌, length, Bool, true, false, not, cond, ◌||◌, ◌==◌, Option, None, Some, arith}
-use Rattle.std.specs.Prelude.{nat_eq, nat_lt, map, filter, find, is_some}
-use Rattle.std.specs.List.{list_any}
+use Rattle.std.proofs.Common.{◌≡◌, ◌∙◌, refl, sym, ap, subst, suc, ℕ, ◌≤◌, ◌<◌, List, [], ◌∷◌, length, Bool, true, false, not, cond, ◌||◌, Option, None, Some, arith}
+use Rattle.std.specs.Prelude.{nat_eq, nat_lt, map, is_some}
 use Rattle.std.proofs.lemmas.Bool.{false≢true}
 use Rattle.std.proofs.lemmas.Bool.Decides.{nat_tests}
-use Rattle.kj_model.specs.World.{World, Named, Held, Promise, CellOf, AskCell, HubOf, Group, Canceler, RequestOf, held_at}
+use Rattle.kj_model.specs.World.{Named, Held, Promise, CellOf, AskCell, HubOf, Group, Canceler, RequestOf, held_at}
 use Rattle.kj_model.specs.Changes.{without_name, with_new}
 use Rattle.kj_model.specs.Uses.{is_name}
 use Rattle.kj_model.specs.Fire.{has_task, group_of, named_renamed, held_renamed}

@@ -1,24 +1,23 @@
 -- A command is refused in both of two states that are alike, or in neither.
-use Rattle.std.proofs.Common.{◌≡◌, ◌∙◌, refl, sym, ap, subst, zero, suc, ℕ, ◌+◌, ◌≤◌, ◌^◌, List, [], ◌∷◌, ◌++◌, length, Bool, true, false, not, ◌&&◌, ◌||◌, ◌==◌, Option, None, Some, arith}
-use Rattle.std.specs.Prelude.{is_some, map, nat_lt, nat_eq, drop, option_to_list}
+use Rattle.std.proofs.Common.{◌≡◌, ◌∙◌, refl, sym, ap, subst, suc, ℕ, ◌+◌, ◌≤◌, ◌^◌, List, [], ◌∷◌, ◌++◌, length, Bool, true, false, not, ◌&&◌, ◌||◌, Option, None, Some, arith}
+use Rattle.std.specs.Prelude.{is_some, map, nat_lt, drop, option_to_list}
 use Rattle.std.specs.List.{list_any}
-use Rattle.std.proofs.lemmas.Bool.{false≢true, or_parts}
+use Rattle.std.proofs.lemmas.Bool.{false≢true}
 use Rattle.std.proofs.lemmas.Bool.Decides.{nat_tests}
-use Rattle.kj_base.specs.declared.outcomes.Outcome.{Outcome}
-use Rattle.kj_base.specs.Commands.{Command, Now, Broken, Later, Last, Pair, Then, Chain, Eager, Fork, Branch, Race, All, Fast, Fulfil, Reject, DropCell, NewSet, Add, Clear, OnEmpty, NewCanceler, Wrap, Cancel, Detach, Drop, Ask, Begin, Stop, Reply}
+use Rattle.kj_base.specs.Commands.{Command, Then, Chain, Eager, Race, All, Fast, Add, Wrap, Cancel, Detach, Drop}
 use Rattle.kj_base.specs.Record.{Item}
 use Rattle.kj_model.specs.Nodes.{Entry, Form, form_at, is_in}
 use Rattle.kj_model.specs.World.{World, State, Setting, Named, Held, Promise, CellOf, AskCell, HubOf, Group, Canceler, RequestOf, Awaited, Row, held_at}
-use Rattle.kj_model.specs.Changes.{named, unnamed, without_name, with_new}
+use Rattle.kj_model.specs.Changes.{named, without_name}
 use Rattle.kj_model.specs.Free.{Holding, usual}
-use Rattle.kj_model.specs.Effects.{effect, node_named, wraps_of}
-use Rattle.kj_model.specs.Uses.{Role, IsNew, IsSource, IsCell, IsAsk, IsHub, IsGroup, IsGroupAlone, IsCanceler, IsRequest, IsDroppable, Use, use_as, used_as, uses_of, is_outside, found_if, first_failing, is_new, is_source, used_before, is_name, is_unknown, has_role, is_wrong, is_taken_as, is_taken, has_empty_cell}
+use Rattle.kj_model.specs.Effects.{effect, wraps_of}
+use Rattle.kj_model.specs.Uses.{Role, IsNew, IsSource, IsCell, IsAsk, IsHub, IsGroup, IsGroupAlone, IsCanceler, IsRequest, IsDroppable, Use, used_as, uses_of, is_outside, found_if, first_failing, is_new, is_source, used_before, is_name, is_unknown, has_role, is_wrong, is_taken_as, is_taken, has_empty_cell}
 use Rattle.kj_model.specs.Apply.{Refused, refusal, refused_stopped, refused_inside, refused_unknown, refused_wrong, refused_taken, refused_busy, refused_full, is_busy, is_busy_at, is_full, would_free, is_free_of, would_settle, settles_wrap, is_unsettled_wrap, rows, before_source, anew, is_none, named_by, each_named, with_awaited, names_after, applied, apply}
 use Rattle.kj_ownership.specs.Kept.{is_spent}
-use Rattle.kj_takings.specs.Alike.{Lists, with_lists, Alike}
-use Rattle.kj_takings.specs.Spared.{names_of, spares, spares_uses}
+use Rattle.kj_takings.specs.Alike.{Lists, with_lists}
+use Rattle.kj_takings.specs.Spared.{names_of, spares}
 use Rattle.kj_takings.proofs.Names.{found_taken, held_spent, name_held, length_without, length_with}
-use Rattle.kj_takings.proofs.Worlds.{Near, held_alike, read_alike, some_taken, less_room}
+use Rattle.kj_takings.proofs.Worlds.{Near, held_alike, read_alike, some_taken}
 use Rattle.kj_takings.proofs.Calm.{Same, less_same}
 use Rattle.kj_takings.proofs.Effects.{AllFirm, node_alike, effect_same}
 

@@ -1,12 +1,11 @@
 -- Turns and waits keep states alike.
-use Rattle.std.proofs.Common.{◌≡◌, ◌∙◌, refl, sym, ap, subst, zero, suc, ℕ, ◌+◌, ◌≤◌, List, [], ◌∷◌, Bool, true, false, ◌==◌, Option, None, Some, arith}
+use Rattle.std.proofs.Common.{◌≡◌, ◌∙◌, refl, sym, ap, subst, zero, suc, ℕ, ◌+◌, Bool, true, false, ◌==◌, Option, None, Some, arith}
 use Rattle.std.specs.Prelude.{is_some}
 use Rattle.std.proofs.lemmas.Bool.{false≢true}
 use Rattle.kj_base.specs.Queue.{head_of}
 use Rattle.kj_base.specs.declared.outcomes.Outcome.{Outcome}
 use Rattle.kj_model.specs.World.{World, State, Setting, Held, Promise, Awaited, held_at}
 use Rattle.kj_model.specs.Changes.{silent, named, unnamed}
-use Rattle.kj_model.specs.Listening.{listened}
 use Rattle.kj_model.specs.Effects.{disarmed_node}
 use Rattle.kj_model.specs.Uses.{is_name}
 use Rattle.kj_model.specs.Grown.{Grows}
@@ -14,13 +13,13 @@ use Rattle.kj_model.specs.Apply.{Refused}
 use Rattle.kj_model.specs.Value.{value, freed}
 use Rattle.kj_model.specs.Fire.{fire}
 use Rattle.kj_model.specs.Calls.{Turned, Fired, Idle, NoMemory, Stopped, rewound_world, taken_world, turned_by, after_turn, turn_at, turn_unless, turn, more_turns, run, Waited, Done, WaitIdle, Turns, NotThere, WaitNoMemory, WaitStopped, with_awaited, held_awaited, lost_in, lost, awaited_freed, wait_valued, wait_value_at, wait_done, name_back, let_go_of, let_go, wait_turned, wait_turn, wait_more, wait_held, wait_unless, wait}
-use Rattle.kj_model.proofs.Growing.{stays, quiet, then_grows, freed_grows}
+use Rattle.kj_model.proofs.Growing.{stays, quiet, freed_grows}
 use Rattle.kj_ownership.specs.Kept.{is_spent}
 use Rattle.kj_takings.specs.Alike.{Lists, with_lists}
 use Rattle.kj_takings.specs.Calls.{wait_but_why}
 use Rattle.kj_takings.proofs.Names.{found_taken, held_spent}
-use Rattle.kj_takings.proofs.Worlds.{Near, Keeps, blind, held_alike, read_alike, listened_near, unnamed_near, new_near, less_room}
-use Rattle.kj_takings.proofs.Calm.{Same, Calm, CalmOnly, only, pure, bind, then_calm, reads, reads_world, quietly, gone_calm, calm_more, calm_moves, calm_as, less_same, tame_world}
+use Rattle.kj_takings.proofs.Worlds.{Near, Keeps, blind, held_alike, read_alike, listened_near, unnamed_near, new_near}
+use Rattle.kj_takings.proofs.Calm.{Same, Calm, CalmOnly, only, pure, bind, then_calm, reads, reads_world, quietly, calm_more, calm_moves, calm_as, less_same, tame_world}
 use Rattle.kj_takings.proofs.Effects.{unarmed_near}
 use Rattle.kj_takings.proofs.Refusals.{name_alike}
 use Rattle.kj_takings.proofs.Values.{value_calm, freed_calm, freed_tame}
@@ -40,14 +39,14 @@ turn_at_calm : (loose : ℕ → Bool) (setting : Setting) (o : Option ℕ) → C
 turn_at_calm loose setting None = calm_more loose 0 1 (λ s. (s, Idle)) (omega arith) (pure loose Idle)
 turn_at_calm loose setting (Some n) =
     bind loose 0 1 (only (silent taken_world)) (λ a s. after_turn (silent rewound_world (fire setting n s))) (taken_calm loose) (λ a.
-        bind loose 1 0 (only (fire setting n)) (λ b s. after_turn (silent rewound_world s)) (fire_calm loose setting n) (λ b.
-            bind loose 0 0 (only (silent rewound_world)) (λ c. after_turn) (rewound_calm loose) (λ c. after_calm loose)))
+    bind loose 1 0 (only (fire setting n)) (λ b s. after_turn (silent rewound_world s)) (fire_calm loose setting n) (λ b.
+    bind loose 0 0 (only (silent rewound_world)) (λ c. after_turn) (rewound_calm loose) (λ c. after_calm loose)))
 
 turn_case : (loose : ℕ → Bool) (setting : Setting) (b : Bool) → Calm loose 1 (turn_unless b setting)
 turn_case loose setting true = calm_more loose 0 1 (λ s. (s, Stopped)) (omega arith) (pure loose Stopped)
 turn_case loose setting false =
     bind loose 0 1 (λ s. (s, head_of s.world.queue)) (λ o s. turn_at setting o (silent rewound_world s)) (reads_world loose (λ w. head_of w.queue) (λ l w. refl)) (λ o.
-        bind loose 0 1 (only (silent rewound_world)) (λ a. turn_at setting o) (rewound_calm loose) (λ a. turn_at_calm loose setting o))
+    bind loose 0 1 (only (silent rewound_world)) (λ a. turn_at setting o) (rewound_calm loose) (λ a. turn_at_calm loose setting o))
 
 pub turn_calm : (loose : ℕ → Bool) (setting : Setting) → Calm loose 1 (turn setting)
 turn_calm loose setting = bind loose 0 1 (λ s. (s, s.world.stopped)) (λ b. turn_unless b setting) (reads_world loose (λ w. w.stopped) (λ l w. refl)) (λ b. turn_case loose setting b)
@@ -193,7 +192,7 @@ wait_told r = (r.0, wait_but_why r.1)
 held_calm : (loose : ℕ → Bool) (setting : Setting) (name n : ℕ) (h : Option Held) → loose name ≡ false → Calm loose (n + 1) (λ s. wait_told (wait_held setting name n h s))
 held_calm loose setting name n (Some (Promise root)) f =
     calm_more loose (0 + (n + 1)) (n + 1) (λ s. wait_told (wait_held setting name n (Some (Promise root)) s)) (omega arith) (bind loose 0 (n + 1) (only (silent (held_awaited name root))) (λ a s. wait_told (wait_more setting n s)) (quietly loose (held_awaited name root) (awaited_near loose name root f)) (λ a.
-        calm_more loose (n + 1 + 0) (n + 1) (λ s. wait_told (wait_more setting n s)) (omega arith) (bind loose (n + 1) 0 (wait_more setting n) (λ w s. (s, wait_but_why w)) (wait_more_calm loose setting n) (λ w. pure loose (wait_but_why w)))))
+    calm_more loose (n + 1 + 0) (n + 1) (λ s. wait_told (wait_more setting n s)) (omega arith) (bind loose (n + 1) 0 (wait_more setting n) (λ w s. (s, wait_but_why w)) (wait_more_calm loose setting n) (λ w. pure loose (wait_but_why w)))))
 held_calm loose setting name n None f = calm_more loose 0 (n + 1) (λ s. (s, NotThere Rattle.kj_model.specs.Apply.Full)) (omega arith) (pure loose (NotThere Rattle.kj_model.specs.Apply.Full))
 held_calm loose setting name n (Some _) f = calm_more loose 0 (n + 1) (λ s. (s, NotThere Rattle.kj_model.specs.Apply.Full)) (omega arith) (pure loose (NotThere Rattle.kj_model.specs.Apply.Full))
 

@@ -1,28 +1,28 @@
 -- Running steps and evaluating trees keeps states alike.
-use Rattle.std.proofs.Common.{◌≡◌, ◌∙◌, refl, sym, ap, subst, append_assoc, zero, suc, ℕ, ◌+◌, ◌≤◌, List, [], ◌∷◌, ◌++◌, Bool, true, false, ◌&&◌, ◌||◌, Option, None, Some, arith}
-use Rattle.std.specs.Prelude.{is_some, option_to_list}
+use Rattle.std.proofs.Common.{◌≡◌, ◌∙◌, refl, sym, ap, subst, append_assoc, zero, suc, ℕ, ◌+◌, List, [], ◌∷◌, ◌++◌, Bool, true, false, ◌||◌, Option, None, Some, arith}
+use Rattle.std.specs.Prelude.{is_some}
 use Rattle.std.specs.List.{list_any}
 use Rattle.std.proofs.lemmas.Bool.{false≢true}
 use Rattle.kj_base.specs.declared.outcomes.Outcome.{Outcome}
-use Rattle.kj_base.specs.Commands.{Command, All, Fast, Reply, Begin, Stop, Action}
+use Rattle.kj_base.specs.Commands.{Command, All, Fast, Reply, Action}
 use Rattle.kj_base.specs.declared.endings.Ending.{Ending}
 use Rattle.kj_base.specs.declared.endings.Ending.TheVariants.{Value as Give, Throw, Promise as GivePromise, Input}
-use Rattle.kj_base.specs.Record.{Item, Run, Free}
-use Rattle.kj_model.specs.Outcomes.{void, joined, command_refused, promise_given}
-use Rattle.kj_model.specs.Nodes.{Entry, Form, Tree, Kept, Fired, Keeps as KeepsOutcome, Gone, Then, Race, Join, Side, Ready, Cell, Branch, Eager, Wrap, Hub, form_at}
+use Rattle.kj_base.specs.Record.{Item, Run}
+use Rattle.kj_model.specs.Outcomes.{void, joined}
+use Rattle.kj_model.specs.Nodes.{Form, Fired, Keeps as KeepsOutcome, Gone, Then, Race, Join, Side, Ready, Cell, Branch, Eager, Wrap, form_at}
 use Rattle.kj_model.specs.World.{World, State, Setting, Held, Promise, held_at, depth_of}
 use Rattle.kj_model.specs.Changes.{silent, put, unnamed}
-use Rattle.kj_model.specs.Free.{Holding, free, usual}
+use Rattle.kj_model.specs.Free.{free, usual}
 use Rattle.kj_model.specs.Grown.{Grows}
 use Rattle.kj_model.specs.Uses.{Use, IsSource, used_as, uses_of, is_outside}
 use Rattle.kj_model.specs.Apply.{Refused, apply, applied, refusal, refused_stopped, refused_inside}
-use Rattle.kj_model.specs.Value.{Given, Gave, Took, took_if, holds_firing, promise_taken, promise_ended, ended, ended_if, rest_applied, all_applied, acted, with_item, with_stopped, answered, run_step, chosen, step_passed, freed, then_valued, given_outcome, then_of, side_valued, side_of, value_side, rest_valued, all_valued, kept_in, join_valued, or_void, content_outcome, hub_outcome, winner_valued, value_form, value_to, value, value_link}
+use Rattle.kj_model.specs.Value.{Given, Gave, took_if, holds_firing, promise_taken, promise_ended, ended, ended_if, rest_applied, all_applied, acted, with_item, with_stopped, answered, run_step, chosen, step_passed, freed, then_valued, given_outcome, then_of, side_valued, side_of, value_side, rest_valued, all_valued, kept_in, join_valued, or_void, content_outcome, hub_outcome, winner_valued, value_form, value_to, value, value_link}
 use Rattle.kj_model.proofs.Growing.{stays, quiet, then_grows, apply_grows, freed_grows}
 use Rattle.kj_ownership.specs.Kept.{is_spent}
 use Rattle.kj_takings.specs.Alike.{Lists, with_lists}
 use Rattle.kj_takings.specs.Spared.{names_of, names_of_all, names_in, spares, all_spare, spared_in}
 use Rattle.kj_takings.proofs.Names.{found_taken, held_spent}
-use Rattle.kj_takings.proofs.Worlds.{Near, Keeps, blind, held_alike, read_alike, put_near, unnamed_near}
+use Rattle.kj_takings.proofs.Worlds.{blind, held_alike, read_alike, put_near, unnamed_near}
 use Rattle.kj_takings.proofs.Calm.{Same, Tame, tame_read, tame_world, less_same, Calm, CalmOnly, only, pure, bind, then_calm, reads, reads_world, quietly, calm_tame, both_true}
 use Rattle.kj_takings.proofs.Frees.{free_tame}
 use Rattle.kj_takings.proofs.Refusals.{is_ask, AllFair, apply_same}

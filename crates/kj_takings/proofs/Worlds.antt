@@ -1,21 +1,21 @@
 -- Changes of two worlds that are alike.
-use Rattle.std.proofs.Common.{◌≡◌, ◌∙◌, refl, sym, ap, subst, zero, suc, ℕ, ◌+◌, ◌≤◌, List, [], ◌∷◌, length, Bool, true, false, Option, None, Some, arith}
-use Rattle.std.specs.Prelude.{nat_lt, is_some, map, ◌==◌}
+use Rattle.std.proofs.Common.{◌≡◌, ◌∙◌, refl, sym, ap, subst, zero, suc, ℕ, ◌≤◌, List, length, Bool, true, false, Option, None, Some, arith}
+use Rattle.std.specs.Prelude.{nat_lt, is_some, map}
 use Rattle.std.proofs.lemmas.Bool.{false≢true}
 use Rattle.kj_base.specs.declared.numbers.Limits.{Limits}
 use Rattle.kj_base.specs.declared.outcomes.Outcome.{Outcome}
 use Rattle.kj_base.specs.Places.{Spot, spot_of}
 use Rattle.kj_base.specs.Queue.{Way}
 use Rattle.kj_model.specs.Nodes.{Form, Cell, Entry, form_at, owner_of, has_event}
-use Rattle.kj_model.specs.World.{World, Named, Held, Promise, CellOf, AskCell, HubOf, Group, Canceler, RequestOf, Awaited, Asked, Ended, held_at, depth_of}
+use Rattle.kj_model.specs.World.{World, Named, Held, Awaited, Asked, Ended, held_at, depth_of}
 use Rattle.kj_model.specs.Changes.{named, unnamed, with_names, without_name, with_new, arm_listener, put}
 use Rattle.kj_model.specs.Places.{placed, placed_if, placed_over, built}
 use Rattle.kj_model.specs.Listening.{listener, listener_from, listener_over, listener_if, announced, listened, listened_if, listened_way, is_last, ready, settled, settled_form}
 use Rattle.kj_model.specs.Fire.{named_renamed, replaced, awaited_renamed}
 use Rattle.kj_ownership.specs.Kept.{is_spent}
-use Rattle.kj_takings.specs.Alike.{Lists, with_lists, as_taken, name_as_taken, firm_names, AllAbove, AreRising, LooseAreSpent, Sorted, Alike}
+use Rattle.kj_takings.specs.Alike.{Lists, with_lists, name_as_taken, firm_names, AreRising, Sorted, Alike}
 use Rattle.kj_takings.specs.Spared.{HasRoom}
-use Rattle.kj_takings.proofs.Names.{found_taken, firm_without, sorted_without, length_without, length_present, absent_without, sorted_with, length_with, firm_with, firm_with_loose, held_firm, held_spent, name_held, group_firm, firm_renamed, sorted_renamed, length_renamed}
+use Rattle.kj_takings.proofs.Names.{found_taken, firm_without, sorted_without, length_without, length_present, absent_without, sorted_with, length_with, firm_with, firm_with_loose, held_firm, held_spent, firm_renamed, sorted_renamed, length_renamed}
 
 -- alike, with room for so many names more
 pub record Near (loose : ℕ → Bool) (k : ℕ) (w v : World) : Type 0 where

@@ -1,9 +1,9 @@
 -- Calls at two states that are alike.
-use Rattle.std.specs.Prelude.{◌≡◌, ◌||◌, ◌&&◌, not, ℕ, zero, suc, ◌+◌, List, [], ◌∷◌, Bool, true, false, Option, None, Some, length, drop, ◌==◌}
+use Rattle.std.specs.Prelude.{◌≡◌, ◌||◌, ◌&&◌, not, ℕ, zero, ◌+◌, List, [], ◌∷◌, Bool, true, false, Option, None, Some, length, drop, ◌==◌}
 use Rattle.kj_base.specs.Commands.{Command, Reply}
 use Rattle.kj_base.specs.Record.{Item}
 use Rattle.kj_model.specs.Apply.{Refused, Full}
-use Rattle.kj_model.specs.Calls.{Call, CallApply, CallTurn, CallRun, CallWait, CallTakeAsk, CallTakeEnded, CallTakeAbandoned, CallClose, call, Reply as ReplyOf, Applied, TurnedBy, WaitedBy, TookAsk, TookEnded, TookAbandoned, Closed, Waited, Done, WaitIdle, Turns, NotThere, WaitNoMemory, WaitStopped}
+use Rattle.kj_model.specs.Calls.{Call, CallApply, CallTurn, CallRun, CallWait, CallTakeAsk, CallTakeEnded, CallTakeAbandoned, call, Reply as ReplyOf, Applied, TurnedBy, WaitedBy, TookAsk, TookEnded, TookAbandoned, Closed, Waited, Done, WaitIdle, Turns, NotThere, WaitNoMemory, WaitStopped}
 use Rattle.kj_model.specs.World.{World, State, Setting, Ended, held_at}
 use Rattle.kj_ownership.specs.Kept.{TakesSpent}
 use Rattle.kj_takings.specs.Spared.{names_of, names_in, spares, spared_in, HasRoom}

@@ -1,3 +1,4 @@
 pub mod Alike
 pub mod Spared
 pub mod Calls
+pub mod Worked

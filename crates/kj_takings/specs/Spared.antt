@@ -1,7 +1,7 @@
 -- What commands and records leave to the loose names, and room for new names.
-use Rattle.std.specs.Prelude.{◌≡◌, ℕ, zero, suc, ◌+◌, ◌≤◌, List, [], ◌∷◌, Bool, true, false, not, ◌&&◌, length}
+use Rattle.std.specs.Prelude.{ℕ, zero, suc, ◌+◌, ◌≤◌, List, [], ◌∷◌, Bool, true, not, ◌&&◌, length}
 use Rattle.std.specs.List.{list_any}
-use Rattle.kj_base.specs.Commands.{Command, Action}
+use Rattle.kj_base.specs.Commands.{Command}
 use Rattle.kj_base.specs.Record.{Item, Run, Free}
 use Rattle.kj_model.specs.World.{World}
 use Rattle.kj_model.specs.Uses.{Use, uses_of, is_new}

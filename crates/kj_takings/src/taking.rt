@@ -4,6 +4,7 @@ ghost use Rattle.kj_model.specs.Calls.{Call, call, calls};
 ghost use Rattle.kj_model.specs.World.{Setting, State, new_state};
 ghost use Rattle.kj_takings.specs.Alike.{AlikeStates, AreRising};
 ghost use Rattle.kj_takings.specs.Calls.{CallFits, IsNowhere, Step, StepsFit, TakingFits, firmed, is_taking, left_calls, loose_after, loosened_by, name_freed, none_loose, plain_replies, reply_but_why, right_calls};
+ghost use Rattle.kj_takings.specs.Worked.{passing_setting, worked_past, worked_start, worked_steps};
 ghost use Rattle.std.specs.Prelude.{Bool, false, ℕ, List, ◌≡◌};
 
 /// Two states are alike where they differ only in asks, ended requests and abandoned cells, in
@@ -45,6 +46,16 @@ pub fn takings_change_nothing_else()
         → AlikeStates (firmed name loose) s t }
 {}
 
+/// What is asked of calls beside one another can be met: a request that ends is taken on one side
+/// only after the next turn, and its number is then used again; on both sides the same steps run.
+pub fn takings_fit_a_worked_case()
+    ensures fits { StepsFit passing_setting none_loose worked_steps worked_start worked_start }
+    ensures settled { (n : ℕ)
+        → loose_after passing_setting none_loose worked_steps worked_start worked_start n ≡ false }
+    ensures runs { (calls passing_setting (left_calls worked_steps) worked_start).0.past
+        ≡ worked_past }
+{}
+
 /// Two lists of calls that differ only in where they take run the same steps and free the same
 /// nodes, in the same order, and their other calls have the same replies, but for why a command or a
 /// wait was refused.
@@ -60,5 +71,5 @@ pub fn takings_change_no_run()
     ensures states { (setting : Setting) (loose : ℕ → Bool) (steps : List Step) (s t : State)
         → StepsFit setting loose steps s t → AlikeStates loose s t
         → AlikeStates (loose_after setting loose steps s t)
-            (calls setting (left_calls steps) s).0 (calls setting (right_calls steps) t).0 }
+        (calls setting (left_calls steps) s).0 (calls setting (right_calls steps) t).0 }
 {}
