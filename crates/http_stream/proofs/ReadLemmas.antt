@@ -11,6 +11,7 @@ use Rattle.http_core.specs.declared.message.Answer.{Answer}
 use Rattle.http_core.specs.declared.message.End.{End}
 use Rattle.http_core.specs.declared.message.End.TheVariants.{Clean, Closed, Bad}
 use Rattle.http_core.specs.declared.read.Part.{Part}
+use Rattle.http_core.specs.declared.read.Part.TheVariants as parts
 use Rattle.http_core.specs.declared.read.RequestRead.{RequestRead}
 use Rattle.http_core.specs.declared.read.RequestRead.TheVariants.{More, Whole, Fault}
 use Rattle.http_core.specs.Text.{fault_text}
@@ -208,3 +209,24 @@ pub read_undrained : (read : RequestRead) (stage : Stage) → stage ≡ read_sta
 read_undrained (More part) stage is = ap is_drained is
 read_undrained (Whole request left) stage is = ap is_drained is
 read_undrained (Fault code) stage is = ap is_drained is
+
+-- ---- a new connection
+
+passed_new : (stream : Option StreamOctets) (octets made : List ℕ) → octets ≡ [] → IfSome stream (λ o. (o.given ≡ []) × (o.written ≡ [])) → IfSome stream (HasPassed Reading octets made 0)
+passed_new None octets made none fresh = tt
+passed_new (Some o) octets made none fresh = record { given = fresh.0 ∙ sym none; written = fresh.1; left = tt }
+
+texts_new : (told : Option (Request → Answer)) (made : List ℕ) → made ≡ [] → IfSome told (λ f. made ≡ replies f [])
+texts_new None made none = tt
+texts_new (Some f) made none = none
+
+pub stands_new : (told : Option (Request → Answer)) (stream : Option StreamOctets) (faults : ℕ) (request : Request) (octets line made : List ℕ) → octets ≡ [] → line ≡ [] → made ≡ [] → IfSome stream (λ o. (o.given ≡ []) × (o.written ≡ []))
+    → StandsSo told stream faults Reading (parts.Line line) request octets made 0 0 false
+stands_new told stream faults request octets line made octets_none line_none made_none fresh = record {
+  requests = [];
+  stands = ([], octets_none, (sym line_none, (λ k inside. absurd (omega (arith, inside, ap length line_none))), omega (arith, ap length line_none)));
+  texts = texts_new told made made_none;
+  count = refl;
+  passed = passed_new stream octets made octets_none fresh;
+  fault = λ is. absurd (cc (is));
+}
