@@ -131,7 +131,7 @@ pub asked_at : (told : Option (Request → Answer)) (stream : Option StreamOctet
     → StandsSo told stream faults stage part r octets made sent answered abandoned → StandsSo told stream faults (Asked left) part r octets made sent answered abandoned
 asked_at told stream faults stage part r left octets made sent answered abandoned stage_is is = subst (λ (s : Stage). StandsSo told stream faults s part r octets made sent answered abandoned) stage_is is
 
-or_zero : Option ℕ → ℕ
+abbrev or_zero : Option ℕ → ℕ
 or_zero None = 0
 or_zero (Some n) = n
 

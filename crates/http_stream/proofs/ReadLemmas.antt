@@ -144,7 +144,7 @@ pub record IsReadOn (told : Option (Request → Answer)) (stream : Option Stream
   pub reading : IsReading part rest
   pub between : IsBetween told stream faults octets (rest ++ drop from octets) made sent answered abandoned
 
-later_fault : (abandoned : Bool) (faults later : ℕ) → faults ≤ later → (abandoned ≡ true → 0 < faults) → abandoned ≡ true → 0 < later
+pub later_fault : (abandoned : Bool) (faults later : ℕ) → faults ≤ later → (abandoned ≡ true → 0 < faults) → abandoned ≡ true → 0 < later
 later_fault abandoned faults later rises fault is = omega (arith, rises, fault is)
 
 pub read_on_bytes : (told : Option (Request → Answer)) (before after : Option StreamOctets) (faults later : ℕ) (stage : Stage) (part : Part) (request : Request) (octets read made : List ℕ) (sent answered : ℕ) (abandoned : Bool) (answer : Got) → stage ≡ Reading
