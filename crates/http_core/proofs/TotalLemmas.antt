@@ -34,7 +34,7 @@ body_shorter (Length n) bytes body rest is = omega (arith, ap length is.1, lengt
 body_shorter Chunked bytes body rest is = chunks_shorter is.1.chunks bytes body is.0 rest is.1.text
 body_shorter (Fault code) bytes body rest is = absurd is
 
-request_shorter : (bytes rest : List ℕ) (r : Request) → IsRequest (skip_pairs bytes) r rest → length rest < length bytes
+pub request_shorter : (bytes rest : List ℕ) (r : Request) → IsRequest (skip_pairs bytes) r rest → length rest < length bytes
 request_shorter bytes rest r is =
     let pairs = skips bytes in
     omega (arith, body_shorter (framing_of r.head) is.behind r.body rest is.body, ap length is.text, length-append is.front is.behind, front_long is.front r.head is.head, ap length pairs.1, length-append pairs.0 (skip_pairs bytes))

@@ -1,12 +1,12 @@
 //! A connection over a service.
-ghost use Rattle.std.specs.Prelude.{◌≡◌, ◌≢◌, ◌++◌, not, IfSome, IfOk, OnOk, OnErr, ℕ, List, [], drop, length, ◌-◌, ◌≤◌};
+ghost use Rattle.std.specs.Prelude.{◌≡◌, ◌≢◌, ◌++◌, not, IfSome, IfOk, OnOk, OnErr, ℕ, List, []};
 ghost use Rattle.http_heads.specs.Framing.{persists};
 ghost use Rattle.http_core.specs.Requests.{reply};
 ghost use Rattle.http_core.specs.Reading.{phase_of, IsReadyRead, IsReading};
-ghost use Rattle.http_core.specs.Serving.{IsReadyAfter, Serves, is_idle, Grows};
+ghost use Rattle.http_core.specs.Serving.{IsReadyAfter, Serves, Grows};
 ghost use Rattle.http_frames.specs.declared.Phase.TheVariants.{Going};
 
-use crate::read::{Part, RequestRead, open, read_on};
+use crate::read::{Part, RequestRead, is_idle, last, open, read_on};
 use crate::ruled::RuledRequest;
 use crate::spare::Spare;
 use crate::text::{push_answer, push_fault};
@@ -66,18 +66,6 @@ fn answer<S: Service>(
     Ok(goes_on)
 }
 
-// The last octets of a piece.
-fn last(piece: &[u8], left: usize) -> &[u8]
-    ensures end { left ≤ length piece.now → result.now ≡ drop (length piece.now - left) piece.now }
-    ensures few { length result.now ≤ left }
-{
-    if left < piece.len() {
-        &piece[piece.len() - left..]
-    } else {
-        piece
-    }
-}
-
 // Answers the requests that are whole with a piece.
 fn serve<S: Service>(
     alloc: Global,
@@ -111,19 +99,6 @@ fn serve<S: Service>(
                 step = open(alloc, spare, rest)?;
             }
         }
-    }
-}
-
-// Nothing of a request came but CRLF pairs before it.
-fn is_idle(part: &Part) -> bool
-    ensures { result ≡ is_idle part.now }
-{
-    match part {
-        Part::Line(octets) => octets.is_empty(),
-        Part::Head(_) => false,
-        Part::Crowded(_) => false,
-        Part::Sized(_, _) => false,
-        Part::Chunked(_, _) => false,
     }
 }
 

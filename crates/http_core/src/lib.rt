@@ -4,13 +4,13 @@
 mod connection;
 mod laws;
 mod message;
-mod read;
-mod ruled;
+pub mod read;
+pub mod ruled;
 mod service;
-mod spare;
+pub mod spare;
 #[cfg(test)]
 mod tests;
-mod text;
+pub mod text;
 
 pub use connection::{Connection, ConnectionState, Fed};
 pub use laws::{one_output, one_reading, some_output, some_reading};

@@ -1,9 +1,10 @@
 //! Reads one request from pieces.
-ghost use Rattle.std.specs.Prelude.{◌≡◌, ℕ, List, [], ◌++◌, ◌<◌, ◌≤◌, length, drop, IfOk, IfSome, IsTrue, false, ◌∷◌, Ok};
+ghost use Rattle.std.specs.Prelude.{◌≡◌, ℕ, List, [], ◌++◌, ◌<◌, ◌≤◌, length, drop, IfOk, IfSome, IsTrue, false, ◌∷◌, Ok, ◌-◌, ◌==◌};
 ghost use Rattle.http_heads.specs.Framing.{framing_of};
 ghost use Rattle.http_heads.specs.declared.Framing.TheVariants as framings;
 ghost use Rattle.http_frames.specs.Progress.{IsFed};
 ghost use Rattle.http_core.specs.Requests.{skip_pairs};
+ghost use Rattle.http_core.specs.Serving.{is_idle};
 ghost use Rattle.http_core.specs.Reading.{NoHeadWithin, NoStopWithin, HasStart, phase_of, IsReadyRead, IsReadyOpening, IsReading, ReadsOn, BodyReadsOn, Opens, Begins, TakesSome};
 
 use crate::ruled::{RuledHead, RuledRequest};
@@ -50,6 +51,31 @@ enum Opening {
     Crowded,
     // Its head is whole, or can't be one.
     Read(RequestRead),
+}
+
+/// Whether nothing of a request came but CRLF pairs before it.
+pub fn is_idle(part: &Part) -> bool
+    ensures { result ≡ is_idle part.now }
+{
+    match part {
+        Part::Line(octets) => octets.is_empty(),
+        Part::Head(_) => false,
+        Part::Crowded(_) => false,
+        Part::Sized(_, _) => false,
+        Part::Chunked(_, _) => false,
+    }
+}
+
+/// The last octets of a piece, as a request leaves them behind it.
+pub fn last(piece: &[u8], left: usize) -> &[u8]
+    ensures end { left ≤ length piece.now → result.now ≡ drop (length piece.now - left) piece.now }
+    ensures few { length result.now ≤ left }
+{
+    if left < piece.len() {
+        &piece[piece.len() - left..]
+    } else {
+        piece
+    }
 }
 
 fn has_pair(bytes: &[u8]) -> bool

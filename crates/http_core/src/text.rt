@@ -161,8 +161,8 @@ fn append_answer(
     Ok(())
 }
 
-// Appends the text of an answer.
-pub(crate) fn push_answer(
+/// Appends the text of an answer; whole or not at all.
+pub fn push_answer(
     alloc: Global,
     out: &mut Bytes,
     request: &Request,
@@ -182,9 +182,9 @@ pub(crate) fn push_answer(
     }
 }
 
-// Appends the text of a fault.
+/// Appends the text of a fault.
 #[tactic(auto, unfolding(crate::specs::Text::fault_text))]
-pub(crate) fn push_fault(out: &mut Bytes, code: u16) -> Result<(), NoMemory>
+pub fn push_fault(out: &mut Bytes, code: u16) -> Result<(), NoMemory>
     ensures ok { OnOk result (out.new ≡ out.old ++ fault_text code) }
     ensures err { OnErr result (out.new ≡ out.old) }
 {

@@ -1,7 +1,8 @@
 //! Each call once, on its happy path and on a fault.
 use crate::{
-    Failed, Job, MemSink, MemSource, Read, Refusing, Sink, Source, Spawner, StdSink, StdSource,
-    Threads, Turn, read_whole, run_all, write_all,
+    Failed, Got, Job, MemSink, MemSource, MemStream, Put, Read, Refusing, Sink, Source, Spawner,
+    StdSink, StdSource, Stream, StreamTurn, Threads, Turn, read_behind, read_whole, run_all,
+    write_all,
 };
 use kj_base::Bytes;
 use std::sync::Wait;
@@ -47,6 +48,73 @@ fn writes_all_or_a_front(rt: HostRuntime) -> Result<(), Fail> {
     assert_eq!(&rt; sink.faults(), 1);
     assert_eq!(&rt; write_all(&mut sink, b"more"), Ok(()));
     assert!(&rt; sink.as_slice() == b"some more".as_slice());
+    Ok(())
+}
+
+#[test]
+fn streams_give_and_take_in_turns(rt: HostRuntime) -> Result<(), Fail> {
+    let alloc = rt.alloc();
+    let turns = [
+        StreamTurn::Fault,
+        StreamTurn::Gap,
+        StreamTurn::Octets(2),
+        StreamTurn::Octets(0),
+    ];
+    let mut stream = MemStream::new(
+        alloc,
+        Bytes::from_slice(alloc, b"some octets")?,
+        Vec::from_array(alloc, turns)?,
+        Vec::from_array(alloc, turns)?,
+    );
+    let mut buf = [0u8; 4];
+    for got in [
+        Got::Bytes(1),
+        Got::Bytes(2),
+        Got::NotYet,
+        Got::Failed,
+        Got::Bytes(4),
+    ] {
+        assert_eq!(&rt; stream.read(&mut buf), got);
+    }
+    assert!(&rt; buf.as_slice() == b" oct".as_slice());
+    for put in [
+        Put::Bytes(1),
+        Put::Bytes(2),
+        Put::NotYet,
+        Put::Failed,
+        Put::Bytes(4),
+    ] {
+        assert_eq!(&rt; stream.write(b"more"), put);
+    }
+    assert!(&rt; stream.written() == b"mmomore".as_slice());
+    assert!(&rt; stream.holds(b"some octets"));
+    assert!(&rt; !stream.holds(b"some octet"));
+    assert_eq!(&rt; (stream.faults(), stream.pauses()), (2, 2));
+    Ok(())
+}
+
+#[test]
+fn reads_stand_behind_what_is_there(rt: HostRuntime) -> Result<(), Fail> {
+    let alloc = rt.alloc();
+    let turns = [StreamTurn::Fault, StreamTurn::Gap, StreamTurn::Octets(3)];
+    let mut stream = MemStream::new(
+        alloc,
+        Bytes::from_slice(alloc, b"octets")?,
+        Vec::from_array(alloc, turns)?,
+        Vec::new(alloc),
+    );
+    let mut octets = Bytes::from_slice(alloc, b"some ")?;
+    for (room, got, text) in [
+        (4, Got::Bytes(3), b"some oct".as_slice()),
+        (4, Got::NotYet, b"some oct".as_slice()),
+        (4, Got::Failed, b"some oct".as_slice()),
+        (2, Got::Bytes(2), b"some octet".as_slice()),
+        (2, Got::Bytes(1), b"some octets".as_slice()),
+        (2, Got::End, b"some octets".as_slice()),
+    ] {
+        assert_eq!(&rt; read_behind(alloc, &mut stream, &mut octets, room)?, got);
+        assert!(&rt; octets.as_slice() == text);
+    }
     Ok(())
 }
 
