@@ -12,3 +12,4 @@ pub mod Fits
 pub mod Keeping
 pub mod Outside
 pub mod Reading
+pub mod Putting

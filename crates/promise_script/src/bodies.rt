@@ -58,9 +58,10 @@ pub fn read_action(alloc: Global, octets: &[u8]) -> Result<Action, NoMemory>
 {
     let mut commands = Commands::new();
     let mut rest = octets;
+    let mut words = Vec::new(alloc);
     while !rest.is_empty() {
         let (text, behind) = first_line(rest);
-        match said_inside(find_meaning(alloc, text)?) {
+        match said_inside(find_meaning(&mut words, text)?) {
             Inside::Nothing => {}
             Inside::Do(command) => push_command(&mut commands, command),
             Inside::Close(ending) => return Ok(Action { commands, ending }),

@@ -11,11 +11,13 @@ use promise_commands::{Line, NumberedLine};
 use std::alloc::Global;
 use std::marker::Model;
 
-/// The lines outside bodies that are left of a script.
+/// The lines outside bodies that are left of a script. The words of the line that was read last are kept
+/// for their memory.
 #[derive(Drop)]
 pub struct LinesLeft<'a> {
     rest: &'a [u8],
     number: u32,
+    words: Vec<&'a [u8]>,
 }
 
 impl<'a> Model for LinesLeft<'a> {
@@ -68,18 +70,19 @@ fn stays_inside(inside: bool, meaning: &Option<Meaning>) -> bool
 
 impl<'a> LinesLeft<'a> {
     /// All lines outside the bodies of a text.
-    pub(crate) fn new(octets: &'a [u8]) -> LinesLeft<'a>
+    pub(crate) fn new(alloc: Global, octets: &'a [u8]) -> LinesLeft<'a>
         requires { length octets.now < 2 ^ 32 }
         ensures { result ≡ lines_left 0 false (lines_of octets.now) }
     {
         LinesLeft {
             rest: octets,
             number: 0,
+            words: Vec::new(alloc),
         }
     }
 
     /// The next line; none where none is left.
-    pub fn next(&mut self, alloc: Global) -> Result<Option<NumberedLine>, NoMemory>
+    pub fn next(&mut self) -> Result<Option<NumberedLine>, NoMemory>
         ensures next { IfOk result (λ found. self.old ≡ with_found found self.new) }
         ensures end { result ≡ Ok None → self.old ≡ [] }
         ensures err { OnErr result (self.new ≡ self.old) }
@@ -87,9 +90,9 @@ impl<'a> LinesLeft<'a> {
         let mut rest = self.rest;
         let mut number = self.number;
         let mut inside = false;
-        while !rest.is_empty() {
+        'finding: while !rest.is_empty() {
             let (text, behind) = first_line(rest);
-            let meaning = find_meaning(alloc, text)?;
+            let meaning = find_meaning(&mut self.words, text)?;
             let stays = stays_inside(inside, &meaning);
             rest = behind;
             number += 1;

@@ -1,5 +1,5 @@
 //! What a line means, from its octets.
-ghost use Rattle.std.specs.Prelude.{◌≡◌, ◌==◌, IfOk, IfSome, map, None};
+ghost use Rattle.std.specs.Prelude.{◌≡◌, ◌==◌, IfOk, IfSome, OnOk, map, None};
 ghost use Rattle.promise_script.specs.declared.meaning.Meaning.{Meaning};
 ghost use Rattle.promise_script.specs.ScriptText.{Means, words_of};
 ghost use Rattle.std.specs.List.{count_by};
@@ -117,15 +117,20 @@ fn space_count(text: &[u8]) -> usize
     text.iter().filter(|octet| **octet == b' ').count()
 }
 
-// The words of a line, which single spaces part.
-fn words_in(alloc: Global, text: &[u8]) -> Result<Vec<&[u8]>, AllocError>
-    ensures { IfOk result (λ v. map (λ w. w.now) v.items ≡ words_of text.now) }
+// The words of a line, which single spaces part, in place of those that were there.
+fn put_words<'a>(words: &mut Vec<&'a [u8]>, text: &'a [u8]) -> Result<(), AllocError>
+    ensures { OnOk result (map (λ w. w.now) words.new.items ≡ words_of text.now) }
 {
-    text.split(|octet| *octet == b' ').collect(alloc)
+    words.clear();
+    words.extend(text.split(|octet| *octet == b' '))
 }
 
-/// What `read_line` gives, as the reader's own definition says it.
-pub fn find_meaning(alloc: Global, text: &[u8]) -> Result<Option<Meaning>, NoMemory>
+/// What `read_line` gives, as the reader's own definition says it. The words of the line take the place
+/// of those of the line before, so that one line after another takes no memory anew.
+pub fn find_meaning<'a>(
+    words: &mut Vec<&'a [u8]>,
+    text: &'a [u8],
+) -> Result<Option<Meaning>, NoMemory>
     ensures { IfOk result (λ meaning. meaning ≡ text_read text.now) }
 {
     if text.is_empty() {
@@ -137,8 +142,8 @@ pub fn find_meaning(alloc: Global, text: &[u8]) -> Result<Option<Meaning>, NoMem
     if space_count(text) > MOST_SPACES {
         return Ok(None);
     }
-    let words = words_in(alloc, text)?;
-    Ok(meaning_of(&words))
+    put_words(words, text)?;
+    Ok(meaning_of(words.as_slice()))
 }
 
 /// What one line means, its end left out; none where it means nothing that a script may say.
@@ -146,5 +151,6 @@ pub fn read_line(alloc: Global, text: &[u8]) -> Result<Option<Meaning>, NoMemory
     ensures meaning { IfOk result (λ found. IfSome found (λ meaning. Means text.now meaning)) }
     ensures none { result ≡ Ok None → (meaning : Meaning) → Means text.now meaning → ⊥ }
 {
-    find_meaning(alloc, text)
+    let mut words = Vec::new(alloc);
+    find_meaning(&mut words, text)
 }

@@ -69,11 +69,16 @@ fn refusal(text: &[u8], number: u32, inside: bool) -> ReadRefused
 }
 
 // Adds one line, behind which the text goes on at this place; false where it may not stand here.
-fn stand_line(alloc: Global, kept: &mut Kept, place: u32, text: &[u8]) -> Result<bool, NoMemory>
+fn stand_line<'a>(
+    words: &mut Vec<&'a [u8]>,
+    kept: &mut Kept,
+    place: u32,
+    text: &'a [u8],
+) -> Result<bool, NoMemory>
     ensures { IfOk result
         (λ stands. Answers stands (line_stood place kept.old text.now) kept.new) }
 {
-    match find_meaning(alloc, text)? {
+    match find_meaning(words, text)? {
         Some(meaning) => kept.stand(place, &meaning),
         None => Ok(false),
     }
@@ -124,13 +129,14 @@ fn read_lines(alloc: Global, octets: &[u8]) -> Result<Kept, ReadRefused>
 {
     let mut kept = before_lines(alloc, octets)?;
     let mut rest = octets;
+    let mut words = Vec::new(alloc);
     let mut number: u32 = 0;
     while !rest.is_empty() {
         let (text, behind) = first_line(rest);
         let place = (octets.len() - behind.len()) as u32;
         number += 1;
         let inside = kept.body.is_some();
-        if !stand_line(alloc, &mut kept, place, text)? {
+        if !stand_line(&mut words, &mut kept, place, text)? {
             return Err(refusal(text, number, inside));
         }
         rest = behind;

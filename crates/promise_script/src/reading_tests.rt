@@ -205,9 +205,9 @@ fn counts_the_commands_of_a_body(rt: HostRuntime) -> Result<(), Fail> {
 // The lines outside bodies.
 fn lines_of(alloc: Global, script: &Script) -> Result<Vec<NumberedLine>, NoMemory> {
     let mut lines = Vec::new(alloc);
-    let mut left = script.lines();
+    let mut left = script.lines(alloc);
     for _ in 0..100 {
-        match left.next(alloc)? {
+        match left.next()? {
             Some(line) => lines.push(line)?,
             None => return Ok(lines),
         }

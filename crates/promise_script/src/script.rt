@@ -67,9 +67,9 @@ impl<'a> Script<'a> {
     }
 
     /// Its lines outside bodies, from the first.
-    pub fn lines(&self) -> LinesLeft<'a>
+    pub fn lines(&self, alloc: Global) -> LinesLeft<'a>
         ensures { result ≡ self.now.lines }
     {
-        LinesLeft::new(self.octets)
+        LinesLeft::new(alloc, self.octets)
     }
 }

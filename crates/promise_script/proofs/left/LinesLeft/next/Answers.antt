@@ -8,7 +8,7 @@ use Rattle.promise_script.proofs.left.LinesLeft.next.Goals as goal
 
 pub returns-in-Some-clause-next : goal.returns-in-Some-clause-next
 returns-in-Some-clause-next c =
-    let said : said_outside c.loop-alloc.inside (text_read c.first_line.result.0.now) ≡ Some c.in-Some.line =
-    ap (λ (o : Option Meaning). said_outside c.loop-alloc.inside o) (sym c.in_ok-meaning.ensures) ∙ sym c.said_outside.ensures ∙ c.in-Some.is in
-    one_found c.loop-alloc.number c.loop-alloc.inside c.loop-alloc.rest.now c.first_line.result.0.now c.first_line.result.1.now c.args.self.now c.in-Some.line
-    c.loop-alloc.invariant.0 c.first_line.ensures.lines said
+    let said : said_outside c.finding.inside (text_read c.first_line.result.0.now) ≡ Some c.in-Some.line =
+    ap (λ (o : Option Meaning). said_outside c.finding.inside o) (sym c.in_ok-meaning.ensures) ∙ sym c.said_outside.ensures ∙ c.in-Some.is in
+    one_found c.finding.number c.finding.inside c.finding.rest.now c.first_line.result.0.now c.first_line.result.1.now c.args.self.now c.in-Some.line
+    c.finding.invariant.0 c.first_line.ensures.lines said

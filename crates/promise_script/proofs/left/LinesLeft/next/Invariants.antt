@@ -4,10 +4,10 @@ use Rattle.promise_script.specs.Left.{lines_left}
 use Rattle.promise_script.specs.ScriptText.{lines_of}
 use Rattle.promise_script.proofs.left.LinesLeft.next.Given as goal
 
-abbrev pub invariant-loop-alloc : goal.invariant-loop-alloc
-invariant-loop-alloc l =
+abbrev pub invariant-finding : goal.invariant-finding
+invariant-finding l =
     (lines_left l.number l.inside (lines_of l.rest) ≡ l.fn.self) × (l.number + length l.rest < 2 ^ 32)
     × (lines_left l.self-inside.number false (lines_of l.self-inside.rest.now) ≡ l.fn.self) × (l.self-inside.number + length l.self-inside.rest.now < 2 ^ 32)
 
-abbrev pub decreases-loop-alloc : goal.decreases-loop-alloc
-decreases-loop-alloc l = length l.rest
+abbrev pub decreases-finding : goal.decreases-finding
+decreases-finding l = length l.rest

@@ -1,0 +1,13 @@
+-- What `extend` puts at the end.
+use Rattle.std.proofs.Common.{◌≡◌, List, Option, Result, OnOk, map}
+use Rattle.std.specs.Prelude.{MatchResult}
+use Rattle.std.specs.Iterator.{Drains, Yields}
+use Rattle.std.proofs.lemmas.Iterator.{YieldsList}
+use Rattle.std.proofs.lemmas.Iterator.Adapters.{fact_from_extend}
+use Rattle.std.proofs.lemmas.Iterator.Consumers.{YieldsList-at}
+
+-- the items of a source, of which it is known what is read of each
+pub put_all : {T A C E Q : Type 0} {steps : T → Option A → T → Type 0} {all : List C} {P : List A → Type 0} {s : T} (v : A → C) (r : Result (Unit {0}) E)
+    → ((it : T) × (xs : List A) × (it ≡ s) × P xs × MatchResult r (λ _. Drains steps it xs) (λ _. (t : T) × Yields steps it xs t))
+    → YieldsList steps v s all → ((xs : List A) → map v xs ≡ all → P xs → Q) → OnOk r Q
+put_all v r ran road says = fact_from_extend v r ran (λ it is. YieldsList-at is road) says
