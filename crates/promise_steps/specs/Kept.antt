@@ -1,5 +1,6 @@
 -- What steps tell, and what always holds of them.
 use Rattle.std.specs.Prelude.{◌≡◌, List, [], ◌∷◌, ◌++◌, IsTrue, Option, None, Some, Bool, true, false, map}
+use Rattle.kj_base.specs.Commands.{Action}
 use Rattle.kj_base.specs.Record.{Item}
 use Rattle.kj_model.specs.Log.{Body, scripted}
 use Rattle.promise_commands.specs.Answers.{Agrees}
@@ -29,6 +30,11 @@ told_if false items = None
 -- what steps tell
 abbrev pub told_by : Kept → Option (List Item)
 told_by kept = told_if kept.whole (since (begun_of kept) (items_of kept))
+
+-- what was told is still told, and this action is the given one; or nothing is told any more
+abbrev pub IsRead : Option (List Item) → Option (List Item) → Action → Action → Type 0
+IsRead before None given action = Unit {0}
+IsRead before (Some after) given action = (before ≡ Some after) × (action ≡ given)
 
 -- where all is kept now, all was kept before, and one item came
 abbrev pub Grows : Kept → Kept → Item → Type 0

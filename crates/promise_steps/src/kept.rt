@@ -1,5 +1,5 @@
 //! What the steps of a script keep.
-ghost use Rattle.std.specs.Prelude.{◌≡◌, [], ◌∷◌, ◌++◌, List, None, map, IfOk, OnOk, IsTrue};
+ghost use Rattle.std.specs.Prelude.{◌≡◌, [], ◌∷◌, ◌++◌, List, None, Some, map, IfOk, IsOk, OnOk, IsTrue};
 ghost use Rattle.kj_base.specs.Record.{Tells, Run, Free};
 ghost use Rattle.kj_model.specs.Log.{passing as passing_action, Told as ToldLine};
 ghost use Rattle.kj_model.specs.Text.{log_text};
@@ -9,7 +9,7 @@ ghost use Rattle.promise_commands.specs.Scripts.{body_of};
 ghost use Rattle.promise_steps.specs.Items.{item_of};
 ghost use Rattle.promise_steps.specs.Order.{given_of};
 ghost use Rattle.promise_steps.specs.Following.{Follows, Prints};
-ghost use Rattle.promise_steps.specs.Kept.{told_by, begun_of, Grows, IsKept};
+ghost use Rattle.promise_steps.specs.Kept.{told_by, begun_of, Grows, IsKept, IsRead};
 
 use crate::order::{Entry, order_of, take_next};
 use crate::told::{Told, print_told};
@@ -48,24 +48,17 @@ pub(crate) fn begin<'a>(alloc: Global, script: &'a Script<'a>) -> Result<Kept<'a
     })
 }
 
-// No commands, and the input.
-fn passing() -> Action
-    ensures { action_of result ≡ passing_action }
+// No commands, and the input; never an `Err`. An action is large, so it is written once, where it is
+// given.
+#[inline(never)]
+fn pass() -> Result<Action, NoMemory>
+    ensures given { IfOk result (λ action. action_of action ≡ passing_action) }
+    ensures ok { IsOk result }
 {
-    Action {
+    Ok(Action {
         commands: Commands::new(),
         ending: Ending::Input,
-    }
-}
-
-// The action of a body, or the input where there is none.
-fn action_given(alloc: Global, script: &Script, which: Option<u32>) -> Result<Action, NoMemory>
-    ensures { IfOk result (λ action. action_of action ≡ given_of script.now.bodies which) }
-{
-    match which {
-        Some(which) => script.action(alloc, which),
-        None => Ok(passing()),
-    }
+    })
 }
 
 // Tells one more item; silent from then on where there is no room.
@@ -110,21 +103,41 @@ fn tell_run(kept: &mut Kept, node: NodeId, step: StepId, input: &Outcome) -> Opt
     which
 }
 
-/// The action of the next run of the step; silent from then on where there is no memory to read it.
-pub(crate) fn run(kept: &mut Kept, node: NodeId, step: StepId, input: &Outcome) -> Action
+// The action of a body, never an `Err`; silent from then on where there is no memory to read it.
+#[inline(never)]
+fn read_body(kept: &mut Kept, which: u32) -> Result<Action, NoMemory>
     requires { IsKept kept.old }
     ensures kept { IsKept kept.new }
-    ensures told { Tells (told_by kept.old) (Run node.0 step.0 input.now (action_of result) ∷ [])
-        (told_by kept.new) }
+    ensures read { IfOk result (λ action. IsRead (told_by kept.old) (told_by kept.new)
+        (given_of kept.old.script.now.bodies (Some which)) (action_of action)) }
+    ensures ok { IsOk result }
 {
-    let which = tell_run(kept, node, step, input);
-    match action_given(kept.alloc, kept.script, which) {
-        Ok(action) => action,
-        Err(NoMemory) => {
-            silence(kept);
-            passing()
-        }
+    let given = kept.script.action(kept.alloc, which);
+    if given.is_ok() {
+        return given;
     }
+    silence(kept);
+    pass()
+}
+
+/// The action of the next run of the step; silent from then on where there is no memory to read it.
+/// Never an `Err`.
+pub(crate) fn run(
+    kept: &mut Kept,
+    node: NodeId,
+    step: StepId,
+    input: &Outcome,
+) -> Result<Action, NoMemory>
+    requires { IsKept kept.old }
+    ensures kept { IsKept kept.new }
+    ensures told { IfOk result (λ action. Tells (told_by kept.old)
+        (Run node.0 step.0 input.now (action_of action) ∷ []) (told_by kept.new)) }
+    ensures ok { IsOk result }
+{
+    let Some(which) = tell_run(kept, node, step, input) else {
+        return pass();
+    };
+    read_body(kept, which)
 }
 
 pub(crate) fn freed(kept: &mut Kept, node: NodeId)

@@ -57,8 +57,9 @@ impl<'a> Steps for ScriptSteps<'a> {
     // No run finds a lack of memory: where there is none to tell of it or to read its body, the steps fall silent.
     ghost lacks = { λ _. 0 };
 
+    #[inline(never)]
     fn run(&mut self, node: NodeId, step: StepId, input: &Outcome) -> Result<Action, NoMemory> {
-        Ok(run(&mut self.kept, node, step, input))
+        run(&mut self.kept, node, step, input)
     }
 
     fn freed(&mut self, node: NodeId) {
