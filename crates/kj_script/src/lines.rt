@@ -22,16 +22,16 @@ fn do_command<N: Nodes + Drop, M: Names + Drop>(
     steps: &mut ScriptSteps,
     text: &mut Bytes,
     number: u32,
-    command: &Command,
+    command: Command,
 ) -> Result<(), NoMemory>
     ensures { OnOk result ((bodies : List Body) (l : Logged)
         → Shows bodies (StandsAt N.rule (N.stands over.old.nodes) (M.stands over.old.names))
         (told_by steps.old) text.old l
         → Shows bodies (StandsAt N.rule (N.stands over.new.nodes) (M.stands over.new.names))
         (told_by steps.new) text.new
-        (log_line (setting_of N.rule bodies) number (Do (command_of command.now)) l)) }
+        (log_line (setting_of N.rule bodies) number (Do (command_of command)) l)) }
 {
-    let applied = over.apply(command.copy(), steps);
+    let applied = over.apply(command, steps);
     steps.drain_into(text)?;
     match applied {
         Ok(()) => Ok(()),
@@ -111,18 +111,18 @@ pub(crate) fn do_line<N: Nodes + Drop, M: Names + Drop>(
     over: &mut LoopOver<N, M>,
     steps: &mut ScriptSteps,
     text: &mut Bytes,
-    numbered: &NumberedLine,
+    numbered: NumberedLine,
 ) -> Result<(), NoMemory>
     ensures { OnOk result ((bodies : List Body) (l : Logged)
         → Shows bodies (StandsAt N.rule (N.stands over.old.nodes) (M.stands over.old.names))
         (told_by steps.old) text.old l
         → Shows bodies (StandsAt N.rule (N.stands over.new.nodes) (M.stands over.new.names))
         (told_by steps.new) text.new
-        (log_line (setting_of N.rule bodies) numbered.now.number (line_of numbered.now.line) l)) }
+        (log_line (setting_of N.rule bodies) numbered.number (line_of numbered.line) l)) }
 {
-    match &numbered.line {
+    match numbered.line {
         Line::Do(command) => do_command(over, steps, text, numbered.number, command),
         Line::Turn => do_turn(over, steps, text),
-        Line::Run(turns) => do_run(over, steps, text, *turns),
+        Line::Run(turns) => do_run(over, steps, text, turns),
     }
 }

@@ -74,9 +74,9 @@ pub fn run_script(alloc: Global, script: &Script) -> Result<Bytes, NoMemory>
     let mut over = new_loop(alloc, limits_of(script.limits()))?;
     let mut steps = ScriptSteps::new(alloc, script)?;
     let mut text = Bytes::new(alloc);
-    let mut left = script.lines();
-    while let Some(line) = left.next(alloc)? {
-        do_line(&mut over, &mut steps, &mut text, &line)?;
+    let mut left = script.lines(alloc);
+    while let Some(line) = left.next()? {
+        do_line(&mut over, &mut steps, &mut text, line)?;
     }
     close(over, &mut steps, &mut text)?;
     Ok(text)

@@ -17,18 +17,18 @@ pub returns-in-Ok : goal.returns-in-Ok
 returns-in-Ok g c bodies l shows =
     let Old : State → Type 0 = StandsAt g.N.Nodes.rule (g.N.Nodes.stands c.args.over.now.nodes) (g.M.Names.stands c.args.over.now.names) in
     let New : State → Type 0 = StandsAt g.N.Nodes.rule (g.N.Nodes.stands c.apply-applied.new.self.nodes) (g.M.Names.stands c.apply-applied.new.self.names) in
-    let r : State × Option Refused = apply (setting_of g.N.Nodes.rule (scripted bodies)) false (command_of c.args.command.now) l.state in
-    let call = subst (λ (k : Command). CallIs Old New g.N.Nodes.rule (λ (setting : Setting) (s : State). apply setting false (command_of k) s) (λ (setting : Setting) (s : State). (s, None)) (told_by c.args.steps.now) (told_by c.apply-applied.new.steps) 0 0) c.copy.ensures c.in-Ok.ensures.applied in
+    let r : State × Option Refused = apply (setting_of g.N.Nodes.rule (scripted bodies)) false (command_of c.args.command) l.state in
+    let call = c.in-Ok.ensures.applied in
     command_done bodies New _ _ l r c.args.number (λ s stands. g.met.M.Names.none_listed c.apply-applied.new.self.names s.world stands.stands.1)
-    (call_printed bodies Old New g.N.Nodes.rule (λ (setting : Setting) (s : State). apply setting false (command_of c.args.command.now) s) None _ _ _ _ _ l call c.in_ok-drain_into.ensures shows)
+    (call_printed bodies Old New g.N.Nodes.rule (λ (setting : Setting) (s : State). apply setting false (command_of c.args.command) s) None _ _ _ _ _ l call c.in_ok-drain_into.ensures shows)
 
 pub returns-in-Err : goal.returns-in-Err
 returns-in-Err g c =
     let Old : State → Type 0 = StandsAt g.N.Nodes.rule (g.N.Nodes.stands c.args.over.now.nodes) (g.M.Names.stands c.args.over.now.names) in
     let New : State → Type 0 = StandsAt g.N.Nodes.rule (g.N.Nodes.stands c.apply-applied.new.self.nodes) (g.M.Names.stands c.apply-applied.new.self.names) in
     let why : Refused = refused_of c.in-Err.refused in
-    let call = subst (λ (k : Command). CallIs Old New g.N.Nodes.rule (λ (setting : Setting) (s : State). apply setting false (command_of k) s) (λ (setting : Setting) (s : State). (s, Some why)) (told_by c.args.steps.now) (told_by c.apply-applied.new.steps) 0 0) c.copy.ensures c.in-Err.ensures.applied in
+    let call = c.in-Err.ensures.applied in
     on_ok c.print_refused.result _ _ c.print_refused.ensures (λ grown bodies l shows.
-    let r : State × Option Refused = apply (setting_of g.N.Nodes.rule (scripted bodies)) false (command_of c.args.command.now) l.state in
+    let r : State × Option Refused = apply (setting_of g.N.Nodes.rule (scripted bodies)) false (command_of c.args.command) l.state in
     command_refused bodies New _ _ _ l r c.args.number why (λ s stands. g.met.M.Names.none_listed c.apply-applied.new.self.names s.world stands.stands.1) grown
-    (call_printed bodies Old New g.N.Nodes.rule (λ (setting : Setting) (s : State). apply setting false (command_of c.args.command.now) s) (Some why) _ _ _ _ _ l call c.in_ok-drain_into.ensures shows))
+    (call_printed bodies Old New g.N.Nodes.rule (λ (setting : Setting) (s : State). apply setting false (command_of c.args.command) s) (Some why) _ _ _ _ _ l call c.in_ok-drain_into.ensures shows))
