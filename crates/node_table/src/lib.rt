@@ -83,11 +83,8 @@ fn cover(cells: &mut Slab<Cell>, key: usize)
     ensures len { slab_len cells.new ≡ slab_len cells.old }
     ensures capacity { cells.new.capacity ≡ cells.old.capacity }
 {
-    let cell = cells.remove(key);
-    cells.insert_reserved(Cell {
-        node: cell.node,
-        is_bare: false,
-    });
+    let cell = &mut cells[key];
+    cell.is_bare = false;
 }
 
 // The same, where there is one.
@@ -130,11 +127,8 @@ fn set_in(cells: &mut Slab<Cell>, key: usize, node: Node)
     ensures len { slab_len cells.new ≡ slab_len cells.old }
     ensures capacity { cells.new.capacity ≡ cells.old.capacity }
 {
-    let cell = cells.remove(key);
-    cells.insert_reserved(Cell {
-        node,
-        is_bare: cell.is_bare,
-    });
+    let cell = &mut cells[key];
+    cell.node = node;
 }
 
 fn node_in_cell(cells: &Slab<Cell>, key: usize) -> &Node
