@@ -1,5 +1,5 @@
 -- A loop that has stopped makes no turn.
-use Rattle.std.proofs.Common.{◌≡◌, ◌∙◌, sym, subst}
+use Rattle.std.proofs.Common.{sym, subst}
 use Rattle.kj_model.specs.World.{World, State, Setting}
 use Rattle.kj_model.specs.Calls.{turn}
 use Rattle.promise_walks.specs.Walks.{Both}
