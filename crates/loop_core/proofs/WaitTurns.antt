@@ -1,6 +1,7 @@
 -- The turns of a wait, from state to state.
 use Rattle.std.proofs.Common.{◌≡◌, ◌∙◌, ◌<◌, ◌≤◌, ℕ, zero, suc, List, [], ◌∷◌, ◌++◌, Option, None, Some, Bool, true, false, is_some, length, refl, sym, ap, subst, arith}
 use Rattle.std.specs.Prelude.{◌==◌, nat_eq, IsSome}
+use Rattle.std.proofs.lemmas.Bool.{false≢true}
 use Rattle.kj_base.specs.declared.nodes.Link.{Link}
 use Rattle.kj_base.specs.Counts.{HasLacked}
 use Rattle.kj_base.specs.Queue.{Events, IsQueue, head_of, rewound}
@@ -98,10 +99,13 @@ turned_is setting n e b x s head is ends =
     ∙ ap (λ (y : State × Turned). wait_turned setting (wait_more setting n) (e == 0) y.1 y.0) ends
     ∙ sym (ap (λ (o : Option ℕ). wait_turn setting (wait_more setting n) o s) head)
 
+fired_lacks : Fired ≡ NoMemory → ⊥
+fired_lacks e = cc
+
 -- a loop that fired runs on
 runs_on : (setting : Setting) (b : Bool) (u s : State) → u.world.stopped ≡ b → s.world.stopped ≡ false → (u, Fired) ≡ turn setting s → u.world.stopped ≡ false
 runs_on setting false u s is runs ends = is
-runs_on setting true u s is runs ends = absurd (not_memory (FiredIn _) tt (ap (λ (x : State × Turned). x.1) ends ∙ turn_told setting s runs (sym (ap (λ (x : State × Turned). x.0.world.stopped) ends) ∙ is)))
+runs_on setting true u s is runs ends = absurd (fired_lacks (ap (λ (x : State × Turned). x.1) ends ∙ turn_told setting s runs (sym (ap (λ (x : State × Turned). x.0.world.stopped) ends) ∙ is)))
 
 -- the event of a node fired
 pub other_fired : (rule : Rule) (OldNodes OldNames NewNodes NewNames : World → Type 0) (event : Link) (n : ℕ) (a b : Option (List Item)) (k l : ℕ) → nat_eq event.number.0 0 ≡ false
@@ -131,7 +135,7 @@ other_fired rule OldNodes OldNames NewNodes NewNames event n a b k l apart t = r
 pub own_fired : (rule : Rule) (OldNodes OldNames NewNodes NewNames : World → Type 0) (event : Link) (n : ℕ) (a b : Option (List Item)) (k l : ℕ) → nat_eq event.number.0 0 ≡ true
     → TakenIs rule OldNodes OldNames NewNodes NewNames (FiredIn event) a b k l
     → CallIs (Waits rule OldNodes OldNames) (Rested rule NewNodes NewNames) rule (λ setting. wait_more setting (suc n)) (λ setting. left_of_wait Ready setting) a b k l
-own_fired rule OldNodes OldNames NewNodes NewNames event n a b k l zero t = record {
+own_fired rule OldNodes OldNames NewNodes NewNames event n a b k l own t = record {
   items = t.acts.items;
   missing = None;
   told = t.acts.told;
@@ -144,7 +148,7 @@ own_fired rule OldNodes OldNames NewNodes NewNames event n a b k l zero t = reco
         state = r.state;
         stands = r.stands;
         past_is = r.past_is;
-        ends = turned_is setting n event.number.0 true (r.state, Fired) s (t.event s.world old.rested.stands.0) zero r.ends;
+        ends = turned_is setting n event.number.0 true (r.state, Fired) s (t.event s.world old.rested.stands.0) own r.ends;
       };
 }
 
@@ -184,11 +188,11 @@ none_fired rule OldNodes OldNames NewNodes NewNames n a b k l t = record {
 
 -- a step found no memory
 lost_is : (setting : Setting) (n : ℕ) (head : Option ℕ) (u s : State) → head_of s.world.queue ≡ head → IsSome head → (u, NoMemory) ≡ turn setting s → (silent lost u, WaitNoMemory) ≡ wait_more setting (suc n) s
-lost_is setting n None u s is some ends = absurd some
+lost_is setting n None u s is some ends = absurd (false≢true some)
 lost_is setting n (Some e) u s is some ends = by (nat_eq e 0) refl
   where
     by : (b : Bool) → nat_eq e 0 ≡ b → (silent lost u, WaitNoMemory) ≡ wait_more setting (suc n) s
-    by true zero = turned_is setting n e true (u, NoMemory) s is zero ends
+    by true own = turned_is setting n e true (u, NoMemory) s is own ends
     by false apart = turned_is setting n e false (u, NoMemory) s is apart ends
 
 pub none_found : (rule : Rule) (OldNodes OldNames NewNodes NewNames : World → Type 0) (n : ℕ) (a b : Option (List Item)) (k l : ℕ)
