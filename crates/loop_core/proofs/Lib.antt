@@ -1,3 +1,4 @@
 pub mod Called
 pub mod Ending
 pub mod Turning
+pub mod WaitTurns

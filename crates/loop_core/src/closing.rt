@@ -1,5 +1,5 @@
 //! The closing.
-ghost use Rattle.std.specs.Prelude.{◌≡◌, []};
+ghost use Rattle.std.specs.Prelude.{◌≡◌, ◌≤◌, length};
 ghost use Rattle.kj_model.specs.Calls.{close};
 ghost use Rattle.promise_walks.specs.Walks.{Both, Does};
 ghost use Rattle.loop_core.specs.Loops.{StandsAt};
@@ -13,7 +13,7 @@ use promise_nodes::Nodes;
 
 // All that is held on this ground goes.
 fn close_on<N: Nodes + Drop, M: Names + Drop, S: Steps>(ground: &mut Ground<N, M>, steps: &mut S)
-    requires none_over { M.over ground.old.names ≡ [] }
+    requires few_over { length (M.over ground.old.names) ≤ 2 }
     ensures does { Does (Both (N.stands ground.old.nodes) (M.stands ground.old.names))
         (Both (N.stands ground.new.nodes) (M.stands ground.new.names)) close (λ s. s)
         (S.told steps.old) (S.told steps.new) }
@@ -35,7 +35,7 @@ fn close_ground<N: Nodes + Drop, M: Names + Drop, S: Steps>(
     ground: &mut Ground<N, M>,
     steps: &mut S,
 )
-    requires none_over { M.over ground.old.names ≡ [] }
+    requires few_over { length (M.over ground.old.names) ≤ 2 }
     ensures closes { Closes
         (StandsAt N.rule (N.stands ground.old.nodes) (M.stands ground.old.names))
         (S.told steps.old) (S.told steps.new) }
@@ -50,7 +50,7 @@ pub(crate) fn close_over<N: Nodes + Drop, M: Names + Drop, S: Steps>(
     over: &mut Evaluator<N, M>,
     steps: &mut S,
 )
-    requires none_over { M.over over.old.names ≡ [] }
+    requires few_over { length (M.over over.old.names) ≤ 2 }
     ensures closes { Closes
         (StandsAt N.rule (N.stands over.old.nodes) (M.stands over.old.names))
         (S.told steps.old) (S.told steps.new) }

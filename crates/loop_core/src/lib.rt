@@ -5,6 +5,7 @@ mod applying;
 mod closing;
 mod over;
 mod running;
+mod waiting;
 
 pub use over::{Loop, LoopOver};
 pub use promise_turns::Turned;

@@ -1,5 +1,5 @@
 //! Turns.
-ghost use Rattle.std.specs.Prelude.{◌≡◌, []};
+ghost use Rattle.std.specs.Prelude.{◌≡◌};
 ghost use Rattle.kj_base.specs.Counts.{HasLacked};
 ghost use Rattle.kj_model.specs.World.{State};
 ghost use Rattle.kj_model.specs.Calls.{run, turn};
@@ -18,7 +18,6 @@ pub(crate) fn turn_over<N: Nodes + Drop, M: Names + Drop, S: Steps>(
     over: &mut Evaluator<N, M>,
     steps: &mut S,
 ) -> Turned
-    requires none_over { M.over over.old.names ≡ [] }
     ensures turns { CallIs
         (StandsAt N.rule (N.stands over.old.nodes) (M.stands over.old.names))
         (StandsAt N.rule (N.stands over.new.nodes) (M.stands over.new.names)) N.rule
@@ -27,7 +26,7 @@ pub(crate) fn turn_over<N: Nodes + Drop, M: Names + Drop, S: Steps>(
     ensures memory { (s : State)
         → StandsAt N.rule (N.stands over.old.nodes) (M.stands over.old.names) s
         → HasLacked (lacked_memory result) (S.lacks steps.old) (S.lacks steps.new) }
-    ensures over { M.over over.new.names ≡ [] }
+    ensures over { M.over over.new.names ≡ M.over over.old.names }
 {
     turn(over, steps)
 }
@@ -38,7 +37,6 @@ pub(crate) fn run_over<N: Nodes + Drop, M: Names + Drop, S: Steps>(
     turns: u32,
     steps: &mut S,
 ) -> Turned
-    requires none_over { M.over over.old.names ≡ [] }
     ensures turns { CallIs
         (StandsAt N.rule (N.stands over.old.nodes) (M.stands over.old.names))
         (StandsAt N.rule (N.stands over.new.nodes) (M.stands over.new.names)) N.rule
@@ -47,7 +45,7 @@ pub(crate) fn run_over<N: Nodes + Drop, M: Names + Drop, S: Steps>(
     ensures memory { (s : State)
         → StandsAt N.rule (N.stands over.old.nodes) (M.stands over.old.names) s
         → HasLacked (lacked_memory result) (S.lacks steps.old) (S.lacks steps.new) }
-    ensures over { M.over over.new.names ≡ [] }
+    ensures over { M.over over.new.names ≡ M.over over.old.names }
 {
     let mut left = turns;
     while left > 0 {

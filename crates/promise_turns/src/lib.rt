@@ -9,5 +9,5 @@ mod siding;
 mod turned;
 mod turning;
 
-pub use turned::Turned;
-pub use turning::turn;
+pub use turned::{TakenTurn, Turned};
+pub use turning::{take_turn, turn};

@@ -1,5 +1,5 @@
 -- Turn by turn.
-use Rattle.std.proofs.Common.{ℕ, suc, ◌≡◌, ◌-◌, subst, arith}
+use Rattle.std.proofs.Common.{ℕ, suc, ◌≡◌, ◌∙◌, ◌-◌, refl, subst, arith}
 use Rattle.kj_model.specs.Calls.{run}
 use Rattle.kj_model.specs.World.{State, Setting}
 use Rattle.promise_turns.specs.Turns.{turned_as}
@@ -13,7 +13,7 @@ use Rattle.loop_core.proofs.running.run_over.Goals as goal
 pub loop-left-init : goal.loop-left-init
 loop-left-init g c =
     let A : State → Type 0 = StandsAt g.N.Nodes.rule (g.N.Nodes.stands c.args.over.now.nodes) (g.M.Names.stands c.args.over.now.names) in
-    (c.requires.none_over, found_none A g.N.Nodes.rule (λ setting. run setting c.args.turns) _ _)
+    (refl, found_none A g.N.Nodes.rule (λ setting. run setting c.args.turns) _ _)
 
 pub loop-left-preserved : goal.loop-left-preserved
 loop-left-preserved g c =
@@ -25,7 +25,7 @@ loop-left-preserved g c =
     let turned = subst (λ (t : Turned). TurnIs g.N.Nodes.rule (g.N.Nodes.stands c.loop-left.over.nodes) (g.M.Names.stands c.loop-left.over.names) (g.N.Nodes.stands c.turn.new.over.nodes) (g.M.Names.stands c.turn.new.over.names) t (g.S.Steps.told c.loop-left.steps) (g.S.Steps.told c.turn.new.steps) (g.S.Steps.lacks c.loop-left.steps) (g.S.Steps.lacks c.turn.new.steps)) c.in-Fired.is (record { acts = c.turn.ensures.turns; memory = c.turn.ensures.memory }) in
     let first = subst (λ (k : ℕ). Found B C g.N.Nodes.rule (λ (setting : Setting). run setting k) (λ (setting : Setting). run setting rest) (g.S.Steps.told c.loop-left.steps) (g.S.Steps.told c.turn.new.steps) (g.S.Steps.lacks c.loop-left.steps) (g.S.Steps.lacks c.turn.new.steps)) same
     (first_fired g.N.Nodes.rule (g.N.Nodes.stands c.loop-left.over.nodes) (g.M.Names.stands c.loop-left.over.names) (g.N.Nodes.stands c.turn.new.over.nodes) (g.M.Names.stands c.turn.new.over.names) rest _ _ _ _ turned) in
-    (c.turn.ensures.over, found_then A B C g.N.Nodes.rule (λ (setting : Setting). run setting c.args.turns) (λ (setting : Setting). run setting c.loop-left.left) (λ (setting : Setting). run setting rest) _ _ _ _ _ _ c.loop-left.invariant.1 first)
+    (c.turn.ensures.over ∙ c.loop-left.invariant.0, found_then A B C g.N.Nodes.rule (λ (setting : Setting). run setting c.args.turns) (λ (setting : Setting). run setting c.loop-left.left) (λ (setting : Setting). run setting rest) _ _ _ _ _ _ c.loop-left.invariant.1 first)
 
 pub returns-in_default : goal.returns-in_default
 returns-in_default g c =
@@ -41,5 +41,5 @@ returns-in_default g c =
       turns = call_then A B C g.N.Nodes.rule (λ (setting : Setting). run setting c.args.turns) (λ (setting : Setting). run setting c.loop-left.left) (λ (setting : Setting). turned_as c.turn.result) _ _ _ _ _ _ c.loop-left.invariant.1.call c.loop-left.invariant.1.none last;
       memory = last_memory A B g.N.Nodes.rule (λ (setting : Setting). run setting c.args.turns) (λ (setting : Setting). run setting c.loop-left.left) c.turn.result _ _ _ _ _ c.loop-left.invariant.1
           (turn_memory g.N.Nodes.rule (g.N.Nodes.stands c.loop-left.over.nodes) (g.M.Names.stands c.loop-left.over.names) (g.N.Nodes.stands c.turn.new.over.nodes) (g.M.Names.stands c.turn.new.over.names) c.turn.result _ _ _ _ t);
-      over = c.turn.ensures.over;
+      over = c.turn.ensures.over ∙ c.loop-left.invariant.0;
     }

@@ -1,0 +1,15 @@
+-- What was done, and the turns that are left; the event of the wait didn't fire, and no step lacked memory so far.
+use Rattle.std.proofs.Common.{◌≡◌, []}
+use Rattle.kj_model.specs.Calls.{wait_more}
+use Rattle.loop_core.specs.Waits.{Waits}
+use Rattle.loop_core.proofs.Called.{Found}
+use Rattle.loop_core.proofs.waiting.wait_turns.Given as goal
+
+abbrev pub invariant-loop-left : goal.invariant-loop-left
+invariant-loop-left g l =
+    (g.M.Names.over l.over.names ≡ [])
+    × Found (Waits g.N.Nodes.rule (g.N.Nodes.stands l.initial.over.nodes) (g.M.Names.stands l.initial.over.names)) (Waits g.N.Nodes.rule (g.N.Nodes.stands l.over.nodes) (g.M.Names.stands l.over.names)) g.N.Nodes.rule
+    (λ setting. wait_more setting l.turns) (λ setting. wait_more setting l.left) (g.S.Steps.told l.initial.steps) (g.S.Steps.told l.steps) (g.S.Steps.lacks l.initial.steps) (g.S.Steps.lacks l.steps)
+
+abbrev pub decreases-loop-left : goal.decreases-loop-left
+decreases-loop-left g l = l.left
