@@ -7,7 +7,7 @@ ghost use Rattle.node_arena.specs.declared.State.TheVariants.{Bare};
 ghost use Rattle.kj_base.specs.Store.{rows_of, row_of, slot_number, KeepsOthers};
 ghost use Rattle.node_arena.specs.Needs.{beyond_at, needed, places_fit, SameForShortRows};
 ghost use Rattle.kj_base.specs.Places.{Spot, Row as RowSeen, arenas_fit, counts, table_fits};
-ghost use Rattle.node_arena.specs.Arenas.{live_in, live_at, node_in, place_before_slot, slot_needs, IsUnused, below_slot, IsChosen, in_state, Covers, with_node, Stands, has_node};
+ghost use Rattle.node_arena.specs.Arenas.{live_in, live_at, node_in, place_before_slot, slot_needs, IsUnused, below_slot, IsChosen, in_state, Covers, with_node, Stands, has_node, node_of};
 
 use kj_base::{Form, NoMemory, Node, NodeId, Row, Slot, Store};
 use std::alloc::Global;
@@ -66,6 +66,7 @@ impl NodeArena {
     pub fn new(alloc: Global, slots: u32) -> Result<NodeArena, NoMemory>
         requires { slots % 8 ≡ 0 }
         ensures empty { IfOk result (λ t. Stands t []) }
+        ensures no_nodes { IfOk result (λ t. (slot : ℕ) → node_of t slot ≡ None) }
         ensures slots { IfOk result (λ t. length t.cells ≡ slots) }
     {
         let cells = free_cells(alloc, slots as usize)?;
