@@ -24,7 +24,7 @@ use promise_steps::ScriptSteps;
 use std::alloc::Global;
 
 // The limits of a script, or the usual ones.
-fn limits_of(limits: Option<Limits>) -> Limits
+pub(crate) fn limits_of(limits: Option<Limits>) -> Limits
     requires { HaveLimits limits }
     ensures limits { result ≡ limits_or limits }
     ensures few { result.slots ≤ MAX_SLOTS }
@@ -67,13 +67,17 @@ fn close<N: Nodes + Drop, M: Names + Drop>(
     steps.drain_into(text)
 }
 
-/// Runs a script from its first line to the closing of its loop, and gives its log. A script that gives no limits has
-/// the usual ones.
-pub fn run_script(alloc: Global, script: &Script) -> Result<Bytes, NoMemory>
-    requires limits { HaveLimits script.now.limits }
-    ensures { IfOk result (λ log. log ≡ log_text (log_of places_fit (script_of script.now))) }
+/// Runs a script on a loop that is new, from its first line to the closing, and gives its log.
+pub(crate) fn run_on<N: Nodes + Drop, M: Names + Drop>(
+    alloc: Global,
+    over: LoopOver<N, M>,
+    script: &Script,
+) -> Result<Bytes, NoMemory>
+    requires new { StandsAt N.rule (N.stands over.nodes) (M.stands over.names)
+        (new_state (limits_or script.now.limits)) }
+    ensures { IfOk result (λ log. log ≡ log_text (log_of N.rule (script_of script.now))) }
 {
-    let mut over = new_loop(alloc, limits_of(script.limits()))?;
+    let mut over = over;
     let mut steps = ScriptSteps::new(alloc, script)?;
     let mut text = Bytes::new(alloc);
     let mut left = script.lines();
@@ -82,4 +86,14 @@ pub fn run_script(alloc: Global, script: &Script) -> Result<Bytes, NoMemory>
     }
     close(over, &mut steps, &mut text)?;
     Ok(text)
+}
+
+/// Runs a script from its first line to the closing of its loop, and gives its log. A script that gives no limits has
+/// the usual ones.
+pub fn run_script(alloc: Global, script: &Script) -> Result<Bytes, NoMemory>
+    requires limits { HaveLimits script.now.limits }
+    ensures { IfOk result (λ log. log ≡ log_text (log_of places_fit (script_of script.now))) }
+{
+    let over = new_loop(alloc, limits_of(script.limits()))?;
+    run_on(alloc, over, script)
 }

@@ -1,29 +1,20 @@
 -- From the first line to the last.
-use Rattle.std.proofs.Common.{rules, ◌≡◌, ◌∙◌, [], ◌∷◌, List, Option, map, sym, ap, subst}
-use Rattle.kj_base.specs.declared.numbers.Limits.{Limits}
+use Rattle.std.proofs.Common.{rules, ◌≡◌, ◌∙◌, [], ◌∷◌, List, Option, map, sym, ap}
 use Rattle.kj_model.specs.Log.{Body, Logged, limits_or, log_closed, log_lines, new_log, setting_of}
 use Rattle.kj_model.specs.Text.{log_text}
-use Rattle.kj_model.specs.World.{State, new_state}
-use Rattle.loop_core.specs.Loops.{StandsAt}
-use Rattle.name_table.specs.Table.{Stands as NamesStand}
-use Rattle.node_arena.specs.Arenas.{node_of, Stands as ArenasStand}
-use Rattle.node_arena.specs.Needs.{places_fit}
 use Rattle.promise_commands.specs.Scripts.{body_of, numbered_of}
 use Rattle.promise_commands.specs.declared.script.NumberedLine.{NumberedLine}
-use Rattle.promise_graph.specs.Standing.{StandsFor}
 use Rattle.promise_script.specs.Left.{with_found}
-use Rattle.kj_script.proofs.run.run_script.Goals as goal
+use Rattle.kj_script.proofs.run.run_on.Goals as goal
 
 pub loop-text-init : goal.loop-text-init
-loop-text-init c =
+loop-text-init g c =
     let bodies : List Body = map body_of c.args.script.now.bodies in
-    let setting = setting_of places_fit bodies in
-    let first : Logged = new_log (limits_or c.args.script.now.limits) in
-    let over = c.in_ok-over.over in
-    let Stands : State → Type 0 = StandsAt places_fit (StandsFor (node_of over.nodes.store) over.nodes.queue.events (ArenasStand over.nodes.store) over.nodes.marks) (NamesStand over.names) in (
+    let setting = setting_of g.N.Nodes.rule bodies in
+    let first : Logged = new_log (limits_or c.args.script.now.limits) in (
       first,
       record {
-        stands = subst (λ (l : Limits). Stands (new_state l)) (c.limits_of.ensures.limits ∙ ap limits_or c.limits.ensures) c.in_ok-over.ensures;
+        stands = c.requires;
         follows = c.in_ok-steps.ensures;
         printed = c.new-text.ensures;
       },
@@ -31,9 +22,9 @@ loop-text-init c =
     )
 
 pub loop-text-preserved : goal.loop-text-preserved
-loop-text-preserved c =
+loop-text-preserved g c =
     let bodies : List Body = map body_of c.args.script.now.bodies in
-    let setting = setting_of places_fit bodies in
+    let setting = setting_of g.N.Nodes.rule bodies in
     let before = c.loop-text.invariant in
     let now : Logged = before.0 in
     let left : c.loop-text.left ≡ c.in-Some.line ∷ c.next.new.self =
@@ -44,9 +35,9 @@ loop-text-preserved c =
     )
 
 pub returns : goal.returns
-returns c =
+returns g c =
     let bodies : List Body = map body_of c.args.script.now.bodies in
-    let setting = setting_of places_fit bodies in
+    let setting = setting_of g.N.Nodes.rule bodies in
     let first : Logged = new_log (limits_or c.args.script.now.limits) in
     let before = c.loop-text.invariant in
     let now : Logged = before.0 in
