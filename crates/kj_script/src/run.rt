@@ -73,7 +73,7 @@ pub(crate) fn run_on<N: Nodes + Drop, M: Names + Drop>(
     over: LoopOver<N, M>,
     script: &Script,
 ) -> Result<Bytes, NoMemory>
-    requires new { StandsAt N.rule (N.stands over.nodes) (M.stands over.names)
+    requires { StandsAt N.rule (N.stands over.nodes) (M.stands over.names)
         (new_state (limits_or script.now.limits)) }
     ensures { IfOk result (λ log. log ≡ log_text (log_of N.rule (script_of script.now))) }
 {
