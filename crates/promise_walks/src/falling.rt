@@ -201,8 +201,8 @@ fn go_on<N: Nodes>(nodes: &mut N, frames: &mut Vec<Frame>, frame: Frame)
 }
 
 /// Whether a node would go with a tree, that node itself and the hubs with their last branches too, by marks that no world
-/// sees. The frames have room for slots + 1, and may have anything in them. The work is in proportion to what would go
-/// and to the branches of its hubs.
+/// sees. The frames have room for slots + 1, and may have anything in them. Each node that would go is entered once, and
+/// at each branch those of its hub are looked at from the oldest on, up to the first that stays.
 pub fn would_free<N: Nodes>(
     nodes: &mut N,
     frames: &mut Vec<Frame>,
