@@ -1,5 +1,5 @@
 //! What walks note at the nodes, by slot.
-ghost use Rattle.std.specs.Prelude.{◌≡◌, ◌<◌, ◌≤◌, ℕ, Option, IfOk, length, slice_set};
+ghost use Rattle.std.specs.Prelude.{◌≡◌, ◌<◌, Option, IfOk};
 ghost use Rattle.kj_base.specs.Store.{slot_number};
 ghost use Rattle.promise_graph.specs.Visits.{AreVisits, AreForgotten, IsNoted, mark_at, never};
 

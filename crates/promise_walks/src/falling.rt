@@ -201,14 +201,9 @@ fn go_on<N: Nodes>(nodes: &mut N, frames: &mut Vec<Frame>, frame: Frame)
 }
 
 /// Whether a node would go with a tree, that node itself and the hubs with their last branches too, by marks that no world
-/// sees. The frames have room for slots + 1, and may have anything in them. The work is in proportion to what would go
-/// and to the branches of its hubs.
-pub fn would_free<N: Nodes>(
-    nodes: &mut N,
-    frames: &mut Vec<Frame>,
-    root: Link,
-    node: Link,
-) -> bool
+/// sees. The frames have room for slots + 1, and may have anything in them. Each node that would go is entered once, and
+/// at each branch those of its hub are looked at from the oldest on, up to the first that stays.
+pub fn would_free<N: Nodes>(nodes: &mut N, frames: &mut Vec<Frame>, root: Link, node: Link) -> bool
     requires room { N.slots nodes.old + 1 ≤ vec_capacity frames.old }
     ensures goes { (w : World) → N.stands nodes.old w → result ≡ is_in node.number.0 (falling (Holding []) w (N.slots nodes.old + 1) [] [] root.number.0) }
     ensures stands { (w : World) → N.stands nodes.old w → N.stands nodes.new w }

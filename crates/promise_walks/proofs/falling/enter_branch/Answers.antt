@@ -1,4 +1,4 @@
-use Rattle.std.proofs.Common.{◌≡◌, ap, sym, subst, ◌∙◌, Bool, ◌∷◌}
+use Rattle.std.proofs.Common.{ap, sym, ◌∙◌, Bool, ◌∷◌}
 use Rattle.std.specs.Prelude.{false}
 use Rattle.promise_walks.specs.Stacks.{falls_count}
 use Rattle.promise_walks.proofs.Fallen.{entered_branch, marks_left, is_there}

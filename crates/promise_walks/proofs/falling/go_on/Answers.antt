@@ -1,4 +1,4 @@
-use Rattle.std.proofs.Common.{◌≡◌, ap, sym, subst, ◌∙◌, ◌-◌, ◌+◌, ◌++◌, ◌∷◌, ℕ, List, [], length, arith, refl}
+use Rattle.std.proofs.Common.{◌≡◌, ap, subst, ◌-◌, ◌+◌, ◌∷◌, List, [], length, arith, refl}
 use Rattle.std.proofs.lemmas.List.{length-append}
 use Rattle.promise_walks.specs.declared.freeing.Frame.{Frame}
 use Rattle.promise_walks.specs.Stacks.{weigh, cost}

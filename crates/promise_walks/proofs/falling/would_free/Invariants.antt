@@ -1,4 +1,4 @@
-use Rattle.std.proofs.Common.{◌≡◌, ℕ, ◌≤◌, ◌+◌, [], vec_len, vec_capacity}
+use Rattle.std.proofs.Common.{◌≡◌, ◌≤◌, ◌+◌, [], vec_len, vec_capacity}
 use Rattle.kj_model.specs.World.{World}
 use Rattle.kj_model.specs.Free.{Holding}
 use Rattle.kj_model.specs.Falling.{falling}
