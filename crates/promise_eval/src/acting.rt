@@ -55,7 +55,7 @@ fn act<N: Nodes, M: Names, S: Steps>(
     frames: &mut Vec<Frame>,
     search: &mut Vec<Parts>,
     under_chain: bool,
-    action: &Action,
+    action: Action,
     input: Outcome,
     steps: &mut S,
 ) -> Given
@@ -63,7 +63,7 @@ fn act<N: Nodes, M: Names, S: Steps>(
     requires few { M.count names.old ≤ M.limit names.old }
     requires frames_room { N.slots nodes.old + 1 ≤ vec_capacity frames.old }
     requires room { N.slots nodes.old + 1 ≤ vec_capacity search.old }
-    ensures acted { Did (Both (N.stands nodes.old) (M.stands names.old)) (Both (N.stands nodes.new) (M.stands names.new)) N.rule (λ setting s. acted setting (action_of action.now) under_chain input s) (λ setting s. (s, given_of result)) (S.told steps.old) (S.told steps.new) }
+    ensures acted { Did (Both (N.stands nodes.old) (M.stands names.old)) (Both (N.stands nodes.new) (M.stands names.new)) N.rule (λ setting s. acted setting (action_of action) under_chain input s) (λ setting s. (s, given_of result)) (S.told steps.old) (S.told steps.new) }
     ensures lacks { S.lacks steps.new ≡ S.lacks steps.old }
     ensures root { GivesRoot (M.roots names.new) (N.is_taken nodes.new) (N.next nodes.new) (Ok result) }
     ensures free { AreFree (M.roots names.new) (N.is_taken nodes.new) (N.next nodes.new) }
@@ -78,7 +78,7 @@ fn act<N: Nodes, M: Names, S: Steps>(
     if !apply_all(nodes, names, frames, search, commands, steps) {
         return refused();
     }
-    end(nodes, names, search, under_chain, &action.ending, input)
+    end(nodes, names, search, under_chain, action.ending, input)
 }
 
 /// A step runs under a node, which may be directly below a Chain: its commands are carried out inside, and then its
@@ -118,7 +118,7 @@ pub fn run_step<N: Nodes, M: Names, S: Steps>(
                 frames,
                 search,
                 under_chain,
-                &action,
+                action,
                 input,
                 steps,
             );

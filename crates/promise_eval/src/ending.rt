@@ -105,12 +105,12 @@ pub(crate) fn end<N: Nodes, M: Names>(
     names: &mut M,
     search: &mut Vec<Parts>,
     under_chain: bool,
-    ending: &Ending,
+    ending: Ending,
     input: Outcome,
 ) -> Given
     requires free { AreFree (M.roots names.old) (N.is_taken nodes.now) (N.next nodes.now) }
     requires room { N.slots nodes.now + 1 ≤ vec_capacity search.old }
-    ensures ended { (s : State) → Both (N.stands nodes.now) (M.stands names.old) s.world → IsDone (Both (N.stands nodes.now) (M.stands names.new)) s.past (given_of result) (ended ending.now under_chain input s) }
+    ensures ended { (s : State) → Both (N.stands nodes.now) (M.stands names.old) s.world → IsDone (Both (N.stands nodes.now) (M.stands names.new)) s.past (given_of result) (ended ending under_chain input s) }
     ensures root { GivesRoot (M.roots names.new) (N.is_taken nodes.now) (N.next nodes.now) (Ok result) }
     ensures free { AreFree (M.roots names.new) (N.is_taken nodes.now) (N.next nodes.now) }
     ensures few { M.count names.new ≤ M.count names.old }
@@ -119,9 +119,9 @@ pub(crate) fn end<N: Nodes, M: Names>(
     ensures room { vec_capacity search.old ≤ vec_capacity search.new }
 {
     match ending {
-        Ending::Value(words) => Given::Gave(Outcome::Value(words.copy())),
-        Ending::Throw(exception) => Given::Gave(Outcome::Broken(*exception)),
+        Ending::Value(words) => Given::Gave(Outcome::Value(words)),
+        Ending::Throw(exception) => Given::Gave(Outcome::Broken(exception)),
         Ending::Input => Given::Gave(input),
-        Ending::Promise(name) => end_promise(nodes, names, search, under_chain, *name),
+        Ending::Promise(name) => end_promise(nodes, names, search, under_chain, name),
     }
 }
