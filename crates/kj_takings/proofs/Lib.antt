@@ -10,3 +10,4 @@ pub mod Turns
 pub mod Closing
 pub mod Beside
 pub mod Worked
+pub mod Listeners

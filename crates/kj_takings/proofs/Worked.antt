@@ -1,5 +1,5 @@
 -- The worked steps fit.
-use Rattle.std.proofs.Common.{None, ◌≡◌, ◌∙◌, refl, sym, ap, ℕ, List, [], ◌∷◌, Bool, true, false, not, ◌&&◌, ◌||◌, arith}
+use Rattle.std.proofs.Common.{◌≡◌, ◌∙◌, refl, sym, ap, ℕ, List, [], ◌∷◌, Bool, true, false, not, ◌&&◌, ◌||◌, arith}
 use Rattle.std.specs.Prelude.{nat_eq}
 use Rattle.kj_model.specs.World.{State, Named, Ended, held_at}
 use Rattle.kj_ownership.specs.Kept.{is_spent}
@@ -29,18 +29,47 @@ right_state = after (CallApply (Begin 100 1 (7 ∷ [])) ∷ CallTurn ∷ CallTur
 pub worked_fit : StepsFit passing_setting none_loose worked_steps worked_start worked_start
 unfolding free_to value_to
 worked_fit = (
-  refl, record { fair = (refl, tt); spared = refl; left = omega arith; right = omega arith },
-  (refl, record { fair = tt; spared = refl; left = omega arith; right = omega arith },
-  (refl, record { fair = tt; spared = refl; left = omega arith; right = omega arith },
-  (record { taking = refl; spent = spent_first left_state.world.names left_state.world.ended refl; unawaited = refl },
-  (refl, record { fair = (refl, tt); spared = refl; left = omega arith; right = omega arith },
-  (refl, record { fair = (refl, tt); spared = refl; left = omega arith; right = omega arith },
-  (refl, record { fair = tt; spared = refl; left = omega arith; right = omega arith },
-  (record { taking = refl; spent = spent_first right_state.world.names right_state.world.ended refl; unawaited = refl },
-  (record { left = refl; right = refl },
-  (refl, record { fair = (refl, tt); spared = refl; left = omega arith; right = omega arith },
-  (refl, record { fair = tt; spared = refl; left = omega arith; right = omega arith },
-  tt)))))))))))
+  refl,
+  record { fair = (refl, tt); spared = refl; left = omega arith; right = omega arith },
+  (
+    refl,
+    record { fair = tt; spared = refl; left = omega arith; right = omega arith },
+    (
+      refl,
+      record { fair = tt; spared = refl; left = omega arith; right = omega arith },
+      (
+        record { taking = refl; spent = spent_first left_state.world.names left_state.world.ended refl; unawaited = refl },
+        (
+          refl,
+          record { fair = (refl, tt); spared = refl; left = omega arith; right = omega arith },
+          (
+            refl,
+            record { fair = (refl, tt); spared = refl; left = omega arith; right = omega arith },
+            (
+              refl,
+              record { fair = tt; spared = refl; left = omega arith; right = omega arith },
+              (
+                record { taking = refl; spent = spent_first right_state.world.names right_state.world.ended refl; unawaited = refl },
+                (
+                  record { left = refl; right = refl },
+                  (
+                    refl,
+                    record { fair = (refl, tt); spared = refl; left = omega arith; right = omega arith },
+                    (
+                      refl,
+                      record { fair = tt; spared = refl; left = omega arith; right = omega arith },
+                      tt,
+                    ),
+                  ),
+                ),
+              ),
+            ),
+          ),
+        ),
+      ),
+    ),
+  ),
+)
 
 -- after them no name is loose
 

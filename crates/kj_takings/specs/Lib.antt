@@ -2,3 +2,4 @@ pub mod Alike
 pub mod Spared
 pub mod Calls
 pub mod Worked
+pub mod Arming

@@ -1,5 +1,5 @@
 -- Worked steps beside one another: a request that ends is taken after the next turn on one side only, and its number is then used again.
-use Rattle.std.specs.Prelude.{ℕ, List, [], ◌∷◌, Some, None}
+use Rattle.std.specs.Prelude.{List, [], ◌∷◌, Some}
 use Rattle.kj_base.specs.Commands.{Begin, Later, Detach}
 use Rattle.kj_base.specs.declared.endings.Ending.TheVariants.{Input}
 use Rattle.kj_base.specs.declared.outcomes.Outcome.TheVariants.{Value}

@@ -2,4 +2,5 @@
 //! no body, and their contracts are laws of the definitions in `kj_model`.
 #![tactic(auto)]
 
+pub mod arming;
 pub mod taking;

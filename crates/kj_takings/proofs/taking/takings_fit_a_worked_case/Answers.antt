@@ -1,4 +1,4 @@
-use Rattle.std.proofs.Common.{refl, true, false}
+use Rattle.std.proofs.Common.{refl}
 use Rattle.kj_model.specs.Free.{free_to}
 use Rattle.kj_model.specs.Value.{value_to}
 use Rattle.kj_takings.proofs.Worked.{worked_fit, none_after}
