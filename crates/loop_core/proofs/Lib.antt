@@ -1,4 +1,5 @@
 pub mod Called
 pub mod Ending
 pub mod Turning
+pub mod WaitEnds
 pub mod WaitTurns

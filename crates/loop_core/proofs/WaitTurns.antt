@@ -1,12 +1,12 @@
 -- The turns of a wait, from state to state.
-use Rattle.std.proofs.Common.{◌≡◌, ◌∙◌, ◌<◌, ◌≤◌, ℕ, zero, suc, List, [], ◌∷◌, ◌++◌, Option, None, Some, Bool, true, false, is_some, length, refl, sym, ap, subst, arith}
+use Rattle.std.proofs.Common.{◌≡◌, ◌∙◌, ◌≤◌, ℕ, suc, List, [], ◌∷◌, ◌++◌, Option, None, Some, Bool, true, false, is_some, length, refl, sym, ap, subst, arith}
 use Rattle.std.specs.Prelude.{◌==◌, nat_eq, IsSome}
 use Rattle.std.proofs.lemmas.Bool.{false≢true}
 use Rattle.kj_base.specs.declared.nodes.Link.{Link}
 use Rattle.kj_base.specs.Counts.{HasLacked}
 use Rattle.kj_base.specs.Queue.{Events, IsQueue, head_of, rewound}
 use Rattle.kj_base.specs.Record.{Item}
-use Rattle.kj_model.specs.Calls.{Turned, Fired, Idle, NoMemory, Stopped, Waited, WaitIdle, WaitNoMemory, Turns, let_go, lost, rewound_world, turn, wait_done, wait_more, wait_turn, wait_turned}
+use Rattle.kj_model.specs.Calls.{Turned, Fired, NoMemory, WaitIdle, WaitNoMemory, let_go, lost, rewound_world, turn, wait_more, wait_turn, wait_turned}
 use Rattle.kj_model.specs.Changes.{silent, with_queue}
 use Rattle.kj_model.specs.World.{World, State, Setting}
 use Rattle.kj_ownership.specs.Kept.{Rests}
@@ -21,9 +21,8 @@ use Rattle.promise_turns.proofs.Taken.{idle_is}
 use Rattle.promise_walks.specs.Walks.{Both}
 use Rattle.promise_walks.specs.Values.{Answer, Agrees, Rule, setting_of}
 use Rattle.loop_core.specs.Calls.{CallIs, ComesTo}
-use Rattle.loop_core.specs.Waits.{Rested, Waits, lacked_at, left_of_wait}
-use Rattle.loop_core.specs.declared.waiting.WaitEnd.{WaitEnd}
-use Rattle.loop_core.specs.declared.waiting.WaitEnd.TheVariants.{Ready, Idle as IdleEnd, AllMade, NoMemory as NoMemoryEnd}
+use Rattle.loop_core.specs.Waits.{Rested, Waits, left_of_wait}
+use Rattle.loop_core.specs.declared.waiting.WaitEnd.TheVariants.{Ready, Idle as IdleEnd, NoMemory as NoMemoryEnd}
 use Rattle.loop_core.proofs.Called.{Found, led, stands_still}
 
 -- what a turn's parts say of it
