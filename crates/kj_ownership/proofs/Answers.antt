@@ -3,25 +3,27 @@ use Rattle.std.proofs.Common.{◌≡◌, ℕ, ◌+◌, ◌*◌, ◌≤◌, List,
 use Rattle.std.specs.Prelude.{nat_lt, nat_le, map, flat_map, ◌^◌}
 use Rattle.std.specs.List.{list_any}
 use Rattle.std.proofs.lemmas.Bool.Decides.{nat_tests}
+use Rattle.std.proofs.Math.Seq.{drop-length}
 use Rattle.kj_base.specs.Commands.{Command, Drop, Stop}
 use Rattle.kj_base.specs.Record.{Item}
 use Rattle.kj_base.specs.Places.{Spot, counts}
-use Rattle.kj_model.specs.Nodes.{is_in, form_at}
+use Rattle.kj_model.specs.Nodes.{Form, Hub, is_in, form_at}
 use Rattle.std.specs.Prelude.{None}
-use Rattle.kj_model.specs.World.{State, Setting, Held, Promise, RequestOf, held_at, depth_of}
+use Rattle.kj_model.specs.World.{World, State, Setting, Held, Promise, HubOf, RequestOf, held_at, depth_of}
 use Rattle.kj_model.specs.Changes.{silent, named, unnamed}
 use Rattle.kj_model.specs.Places.{table_fits}
-use Rattle.kj_model.specs.Free.{Holding, free}
-use Rattle.kj_model.specs.Effects.{dropped_held, node_of}
+use Rattle.kj_model.specs.Free.{Holding, free, free_unreferenced}
+use Rattle.kj_model.specs.Effects.{dropped_held, hub_unnamed, node_of}
 use Rattle.kj_model.specs.Apply.{is_free_of, would_free, rows, names_after, is_none, is_full, apply}
 use Rattle.kj_model.specs.Calls.{hubs_of}
-use Rattle.kj_model.specs.Falling.{falling}
+use Rattle.kj_model.specs.Falling.{falling, hub_falling}
 use Rattle.kj_model.specs.Owned.{tree_roots, numbers}
 use Rattle.kj_model.specs.Trees.{tree_numbers}
 use Rattle.kj_ownership.specs.Standing.{Owned}
 use Rattle.kj_ownership.specs.Stems.{stem, Frames, is_steady}
 use Rattle.kj_ownership.specs.Shapes.{Shaped}
 use Rattle.kj_ownership.specs.Fits.{Fits}
+use Rattle.kj_ownership.specs.Going.{hub_goes}
 use Rattle.kj_model.proofs.Falling.{node_frees}
 use Rattle.kj_ownership.proofs.Busy.{told_more}
 use Rattle.kj_ownership.proofs.Sizes.{live_are_few, trees_bound}
@@ -77,6 +79,22 @@ drop_would_free f name r s at =
     ap (λ (o : Option Held). list_any (is_free_of f) (drop (length s.past) (dropped_held (Holding []) name o s).past)) at
     ∙ ap (λ (xs : List Item). list_any (is_free_of f) (drop (length s.past) xs)) (node_frees (Holding []) (depth_of s.world) r s1).told
     ∙ told_more f s.past ns
+
+hub_case : (f hub : ℕ) (o : Option Form) (s : State)
+    → list_any (is_free_of f) (drop (length s.past) (free_unreferenced (Holding []) (free (Holding [])) hub o s).past) ≡ is_in f (hub_falling (Holding []) s.world (λ n. falling (Holding []) s.world (depth_of s.world) [] [] n) [] hub o)
+hub_case f hub (Some (Hub content false [])) s =
+    ap (λ (xs : List Item). list_any (is_free_of f) (drop (length s.past) xs)) (node_frees (Holding []) (depth_of s.world) hub s).told
+    ∙ told_more f s.past (falling (Holding []) s.world (depth_of s.world) [] [] hub)
+hub_case f hub (Some (Hub content false (b ∷ branches))) s = ap (list_any (is_free_of f)) (drop-length s.past)
+hub_case f hub (Some (Hub content true branches)) s = ap (list_any (is_free_of f)) (drop-length s.past)
+hub_case f hub None s = ap (list_any (is_free_of f)) (drop-length s.past)
+hub_case f hub (Some _) s = ap (list_any (is_free_of f)) (drop-length s.past)
+
+pub drop_hub_would_free : (f name hub : ℕ) (s : State) → held_at name s.world.names ≡ Some (HubOf hub) → would_free f (Drop name) s ≡ is_in f (hub_goes hub (hub_unnamed hub (unnamed name s.world)))
+drop_hub_would_free f name hub s at =
+    let s1 = silent (λ (w : World). hub_unnamed hub (unnamed name w)) s in
+    ap (λ (o : Option Held). list_any (is_free_of f) (drop (length s.past) (dropped_held (Holding []) name o s).past)) at
+    ∙ hub_case f hub (form_at hub s1.world.nodes) s1
 
 pub stop_would_free : (f request n : ℕ) (s : State) → held_at request s.world.names ≡ Some (RequestOf (Some n)) → would_free f (Stop request) s ≡ is_in f (falling (Holding []) (named request (RequestOf None) s.world) (depth_of s.world) [] [] n)
 stop_would_free f request n s at =

@@ -7,3 +7,4 @@ pub mod Kept
 pub mod Firing
 pub mod Requests
 pub mod Memory
+pub mod Going

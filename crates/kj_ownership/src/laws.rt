@@ -7,6 +7,7 @@ ghost use Rattle.kj_base.specs.declared.numbers.Limits.{Limits};
 ghost use Rattle.kj_model.specs.Apply.{apply, is_full, names_after, rows, would_free};
 ghost use Rattle.kj_model.specs.Calls.{Call, call, close, held_awaited, hubs_of, turn};
 ghost use Rattle.kj_model.specs.Changes.{frees_in, named, silent, unnamed};
+ghost use Rattle.kj_model.specs.Effects.{hub_unnamed};
 ghost use Rattle.kj_model.specs.Falling.{falling};
 ghost use Rattle.kj_model.specs.Fire.{fire_form};
 ghost use Rattle.kj_model.specs.Framed.{times};
@@ -16,9 +17,10 @@ ghost use Rattle.kj_model.specs.Owned.{IsInOrder, numbers, tree_roots};
 ghost use Rattle.kj_model.specs.Places.{table_fits};
 ghost use Rattle.kj_model.specs.Trees.{tree_numbers};
 ghost use Rattle.kj_model.specs.Value.{Took, value, value_link};
-ghost use Rattle.kj_model.specs.World.{Promise, RequestOf, Setting, State, depth_of, held_at, new_state};
+ghost use Rattle.kj_model.specs.World.{HubOf, Promise, RequestOf, Setting, State, depth_of, held_at, new_state};
 ghost use Rattle.kj_ownership.specs.Firing.{BranchesOutlive, IsFiring, MayWin, Outlives, TakesPlace, event_ended, event_taken, gave_promise, world_freed};
 ghost use Rattle.kj_ownership.specs.Fits.{Fits};
+ghost use Rattle.kj_ownership.specs.Going.{hub_goes};
 ghost use Rattle.kj_ownership.specs.Kept.{Kept, Rests, TakesSpent, is_open};
 ghost use Rattle.kj_ownership.specs.Owners.{is_live, owns};
 ghost use Rattle.kj_ownership.specs.Shapes.{Shaped};
@@ -66,9 +68,11 @@ pub fn close_frees_each_number_once()
     ensures owned { (s : State) → Owned s → s.world.awaited ≡ None → Owned (close s) }
 {}
 
-/// A Drop of a promise and a Stop would free just what goes with the tree, read off the nodes as they stand.
+/// A Drop of a promise and a Stop would free just what goes with the tree, read off the nodes as they stand; a Drop of a
+/// hub what goes with the hub, where it has no branch, read off the nodes once it has no name.
 pub fn busy_reads_what_goes()
     ensures dropped { (f name root : ℕ) (s : State) → held_at name s.world.names ≡ Some (Promise root) → would_free f (Drop name) s ≡ is_in f (falling (Holding []) (unnamed name s.world) (depth_of s.world) [] [] root) }
+    ensures unnamed { (f name hub : ℕ) (s : State) → held_at name s.world.names ≡ Some (HubOf hub) → would_free f (Drop name) s ≡ is_in f (hub_goes hub (hub_unnamed hub (unnamed name s.world))) }
     ensures stopped { (f request node : ℕ) (s : State) → held_at request s.world.names ≡ Some (RequestOf (Some node)) → would_free f (Stop request) s ≡ is_in f (falling (Holding []) (named request (RequestOf None) s.world) (depth_of s.world) [] [] node) }
 {}
 

@@ -12,7 +12,7 @@ returns-in-Ok-clause-gives g c =
     let step = c.args.step.0 in
     let action = action_of c.in-Ok.action in
     let all = ran (Both (g.N.Nodes.stands c.args.nodes.now) (g.M.Names.stands c.args.names.now)) (Both (g.N.Nodes.stands c.act-given.new.nodes) (g.M.Names.stands c.act-given.new.names)) g.N.Nodes.rule
-        c.args.under_chain n step c.args.input action (given_of c.act-given.result) _ _ _ c.in-Ok.ensures.ran c.act-given.ensures.acted in
+    c.args.under_chain n step c.args.input action (given_of c.act-given.result) _ _ _ c.in-Ok.ensures.ran c.act-given.ensures.acted in
     record { items = all.items; told = all.told; same = all.goes }
 
 pub returns-in-Err-clause-gives : goal.returns-in-Err-clause-gives
