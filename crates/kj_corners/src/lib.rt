@@ -3,4 +3,5 @@
 //! have no body, and their contracts say what each script's log is.
 #![tactic(auto)]
 
+pub mod arenas;
 pub mod corners;

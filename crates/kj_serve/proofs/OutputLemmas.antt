@@ -8,7 +8,7 @@ use Rattle.kj_base.specs.declared.limits.TheConstants.{INPUT_LIMIT}
 use Rattle.promise_commands.specs.Script.{Script}
 use Rattle.promise_commands.specs.Scripts.{script_of}
 use Rattle.kj_model.specs.Log.{log_of}
-use Rattle.kj_model.specs.Places.{table_fits}
+use Rattle.kj_script.specs.Running.{places_fit}
 use Rattle.kj_model.specs.Text.{log_text}
 use Rattle.promise_script.specs.Scripts.{IsScriptText, IsBadLine, IsNotBuiltLine}
 use Rattle.conn_record.specs.Records.{conn_text, conns_text, record_text, reply_text, IsRecording, IsNoRecording, BeginsWith, IsWholeUpTo}
@@ -51,7 +51,7 @@ abbrev pub OneReply : Type 0
 OneReply = (f : Request → Answer) (bytes output other : List ℕ) → IsReplies f bytes output → IsReplies f bytes other → output ≡ other
 
 same_log : OneScript → (input a b : List ℕ) → RunsTo input a → RunsTo input b → a ≡ b
-same_log one input a b f g = f.log ∙ ap (λ (s : Script). log_text (log_of table_fits (script_of s))) (one.script input f.script g.script f.text g.text) ∙ sym g.log
+same_log one input a b f g = f.log ∙ ap (λ (s : Script). log_text (log_of places_fit (script_of s))) (one.script input f.script g.script f.text g.text) ∙ sym g.log
 
 same_fault : (IsFault : List ℕ → ℕ → Type 0) (text : ℕ → List ℕ) (input a b : List ℕ) → ((j k : ℕ) → IsFault input j → IsFault input k → j ≡ k) → FaultGives IsFault text input a → FaultGives IsFault text input b → a ≡ b
 same_fault IsFault text input a b one f g = f.2 ∙ ap text (one f.0 g.0 f.1 g.1) ∙ sym g.2
@@ -151,7 +151,7 @@ some_run script input = by (cases_lt INPUT_LIMIT (length input)) (script.some in
   where
     by : (INPUT_LIMIT < length input) ⊎ (length input ≤ INPUT_LIMIT) → ((script : Script) × IsScriptText input script) ⊎ (((line : ℕ) × IsBadLine input line) ⊎ ((line : ℕ) × IsNotBuiltLine input line)) → Given Run input
     by (inl long) found = (6, [], inr (inr (inr (long, refl, refl))))
-    by (inr short) (inl found) = (0, log_text (log_of table_fits (script_of found.0)), inl (short, record { script = found.0; text = found.1; log = refl }, refl))
+    by (inr short) (inl found) = (0, log_text (log_of places_fit (script_of found.0)), inl (short, record { script = found.0; text = found.1; log = refl }, refl))
     by (inr short) (inr (inl found)) = (1, bad_line found.0, inr (inl (short, (found.0, found.1, refl), refl)))
     by (inr short) (inr (inr found)) = (9, not_built_line found.0, inr (inr (inl (short, (found.0, found.1, refl), refl))))
 

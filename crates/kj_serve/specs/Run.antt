@@ -2,7 +2,7 @@
 use Rattle.std.specs.Prelude.{◌≡◌, ◌⊎◌, ℕ, ◌<◌, ◌≤◌, List, length, Some, codes}
 use Rattle.kj_io.specs.Causes.{Rose}
 use Rattle.kj_model.specs.Log.{log_of}
-use Rattle.kj_model.specs.Places.{table_fits}
+use Rattle.kj_script.specs.Running.{places_fit}
 use Rattle.kj_model.specs.Text.{log_text}
 use Rattle.promise_commands.specs.Scripts.{script_of}
 use Rattle.promise_commands.specs.Script.{Script}
@@ -14,7 +14,7 @@ use Rattle.kj_serve.specs.Outside.{Outside, NoFault, ReadPast, ReadWhole, Wrote,
 pub record RunsTo (input output : List ℕ) : Type 0 where
   pub script : Script
   pub text : IsScriptText input script
-  pub log : output ≡ log_text (log_of table_fits (script_of script))
+  pub log : output ≡ log_text (log_of places_fit (script_of script))
 
 -- the output of an input with a bad line
 abbrev pub bad_line : ℕ → List ℕ

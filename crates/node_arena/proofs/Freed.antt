@@ -9,7 +9,9 @@ use Rattle.kj_base.specs.declared.nodes.Node.{Node}
 use Rattle.node_arena.specs.declared.Cell.{Cell}
 use Rattle.node_arena.specs.declared.State.TheVariants.{Free}
 use Rattle.node_arena.specs.declared.NodeArena.TheInside.{Inside}
-use Rattle.node_arena.specs.Arenas.{view_of, has_node, live_in, bare_in, node_if, node_in, node_of, live_at, bare_at, IsUnused, is_in, IsKept, Stands, in_state, with_node}
+use Rattle.node_arena.specs.Arenas.{view_of, has_node, live_in, bare_in, node_if, node_in, node_of, live_at, bare_at, IsUnused, is_in, IsKept, Stands, in_state, with_node, live_count}
+use Rattle.kj_base.specs.Places.{one_if}
+use Rattle.node_arena.proofs.Counted.{count_changed, count_none, count_some, count_within}
 use Rattle.node_arena.proofs.Lists.{in_push, below_push, apart_push_number}
 use Rattle.node_arena.proofs.Standing.{IsFreed}
 use Rattle.node_arena.proofs.Kept.{live_below, IsSet}
@@ -68,8 +70,9 @@ module _ (old : Inside) (cells : List Cell) (slot : ℕ) (kept : IsKept old) (li
       let r = kept.room in
       omega arith
 
-  pub given : (free : List ℕ) → IsUnused cells (slot / 8) → free ≡ old.free.items ++ slot / 8 ∷ [] → IsFreed (view_of old) (record { cells = cells; free = free }) slot
-  given free u e = record {
+  pub given : (free : List ℕ) (count : ℕ) → IsUnused cells (slot / 8) → free ≡ old.free.items ++ slot / 8 ∷ [] → count + 1 ≡ old.live → IsFreed (view_of old) (record { cells = cells; free = free; live = count }) slot
+  given free count u e n = record {
+    live = n;
     was_live = live;
     freed = gone;
     others = live_others;
@@ -77,8 +80,17 @@ module _ (old : Inside) (cells : List Cell) (slot : ℕ) (kept : IsKept old) (li
     free = inl (u, ap length e ∙ length-append old.free.items (slot / 8 ∷ []));
   }
 
-  pub not_given : (IsUnused cells (slot / 8) → ⊥) → IsFreed (view_of old) (record { cells = cells; free = old.free.items }) slot
-  not_given u = record { was_live = live; freed = gone; others = live_others; size = size; free = inr (u, refl) }
+  pub not_given : (count : ℕ) → (IsUnused cells (slot / 8) → ⊥) → count + 1 ≡ old.live → IsFreed (view_of old) (record { cells = cells; free = old.free.items; live = count }) slot
+  not_given count u n = record { live = n; was_live = live; freed = gone; others = live_others; size = size; free = inr (u, refl) }
+
+  -- one slot fewer is live
+  one_less : (count : ℕ) → count + 1 ≡ old.live → count ≡ live_count cells
+  one_less count n =
+      let a = count_changed old.cells.items cells slot size live_others in
+      let b : one_if (live_at old.cells.items slot) ≡ 1 = ap one_if live in
+      let c : one_if (live_at cells slot) ≡ 0 = ap one_if gone in
+      let d = kept.counted in
+      omega arith
 
   old_unused : (arena : ℕ) → slot / 8 ≢ arena → IsUnused cells arena → IsUnused old.cells.items arena
   old_unused arena d u other e = sym (live_others other (λ s. d (ap (λ k. k / 8) (sym s) ∙ e))) ∙ u other e
@@ -90,8 +102,8 @@ module _ (old : Inside) (cells : List Cell) (slot : ℕ) (kept : IsKept old) (li
   ]
 
 pub kept_given : (old new : Inside) (slot : ℕ) → IsKept old → live_at old.cells.items slot ≡ true → slice_get new.cells.items slot ≡ in_state Free (slice_get old.cells.items slot) → ((other : ℕ) → other ≢ slot → slice_get new.cells.items other ≡ slice_get old.cells.items other)
-    → length new.cells.items ≡ length old.cells.items → IsUnused new.cells.items (slot / 8) → new.free.items ≡ old.free.items ++ slot / 8 ∷ [] → vec_capacity old.free ≤ vec_capacity new.free → IsKept new
-kept_given old new slot k live cell others size u e room =
+    → length new.cells.items ≡ length old.cells.items → IsUnused new.cells.items (slot / 8) → new.free.items ≡ old.free.items ++ slot / 8 ∷ [] → vec_capacity old.free ≤ vec_capacity new.free → new.live + 1 ≡ old.live → IsKept new
+kept_given old new slot k live cell others size u e room n =
     let cells = new.cells.items in
     let eighth : length cells / 8 ≡ length old.cells.items / 8 = ap (λ n. n / 8) size in
     record {
@@ -113,6 +125,7 @@ kept_given old new slot k live cell others size u e room =
             rw (s, j) refl
       ]);
       lowest = lowest old cells slot k live cell others size;
+      counted = one_less old cells slot k live cell others size new.live n;
     }
   where
     drop_false : (b : Bool) → (b || false) ≡ true → b ≡ true
@@ -124,8 +137,8 @@ kept_given old new slot k live cell others size u e room =
     or_true false = refl
 
 pub kept_same : (old new : Inside) (slot : ℕ) → IsKept old → live_at old.cells.items slot ≡ true → slice_get new.cells.items slot ≡ in_state Free (slice_get old.cells.items slot) → ((other : ℕ) → other ≢ slot → slice_get new.cells.items other ≡ slice_get old.cells.items other)
-    → length new.cells.items ≡ length old.cells.items → (IsUnused new.cells.items (slot / 8) → ⊥) → new.free ≡ old.free → IsKept new
-kept_same old new slot k live cell others size u e =
+    → length new.cells.items ≡ length old.cells.items → (IsUnused new.cells.items (slot / 8) → ⊥) → new.free ≡ old.free → new.live + 1 ≡ old.live → IsKept new
+kept_same old new slot k live cell others size u e n =
     let cells = new.cells.items in
     let eighth : length cells / 8 ≡ length old.cells.items / 8 = ap (λ n. n / 8) size in
     record {
@@ -140,6 +153,7 @@ kept_same old new slot k live cell others size u e =
         | inr s ↦ k.free arena (omega arith) (old_unused old cells slot k live cell others size arena (eqb-false (slot / 8) arena s) w)
       ]);
       lowest = lowest old cells slot k live cell others size;
+      counted = one_less old cells slot k live cell others size new.live n;
     }
 
 -- another node in a cell
@@ -189,8 +203,8 @@ range_more a (suc n) =
     let f : suc n + 1 ≡ suc (n + 1) = omega arith in
     ap (range_with_len a) f ∙ ap (λ xs. a ∷ xs) (range_more (a + 1) n ∙ ap (λ k. range_with_len (a + 1) n ++ k ∷ []) e)
 
-pub kept_new : (new : Inside) (slots : ℕ) → ((slot : ℕ) → live_at new.cells.items slot ≡ false) → length new.cells.items ≡ slots → slots % 8 ≡ 0 → slots < 2 ^ 32 → new.free.items ≡ range_with_len 0 (slots / 8) → slots / 8 ≤ vec_capacity new.free → IsKept new
-kept_new new slots none size whole small free room =
+pub kept_new : (new : Inside) (slots : ℕ) → ((slot : ℕ) → live_at new.cells.items slot ≡ false) → length new.cells.items ≡ slots → slots % 8 ≡ 0 → slots < 2 ^ 32 → new.free.items ≡ range_with_len 0 (slots / 8) → slots / 8 ≤ vec_capacity new.free → new.live ≡ 0 → IsKept new
+kept_new new slots none size whole small free room zero_live =
     let eighth : length new.cells.items / 8 ≡ slots / 8 = ap (λ n. n / 8) size in
     record {
       whole = ap (λ n. n % 8) size ∙ whole;
@@ -200,16 +214,18 @@ kept_new new slots none size whole small free room =
       apart = rw free (range_apart 0 (slots / 8));
       unused = λ arena i slot e. none slot;
       free = λ arena l u. ap (is_in arena) free ∙ range_in 0 (slots / 8) arena (omega arith) (omega arith);
+      counted = zero_live ∙ sym (count_none new.cells.items none);
       lowest = λ slot other b e l. none other;
     }
 
-pub stands_new : (cells : List Cell) (free : List ℕ) (slots : ℕ) → ((slot : ℕ) → live_at cells slot ≡ false) → length cells ≡ slots → free ≡ range_with_len 0 (slots / 8) → Stands (record { cells = cells; free = free }) []
+pub stands_new : (cells : List Cell) (free : List ℕ) (slots : ℕ) → ((slot : ℕ) → live_at cells slot ≡ false) → length cells ≡ slots → free ≡ range_with_len 0 (slots / 8) → Stands (record { cells = cells; free = free; live = 0 }) []
 stands_new cells free slots none size is = record {
   arena_of = λ k. k;
   key_of = λ a. a;
   apart = tt;
   each = λ slot. sym (none slot);
   spots_are = tt;
+  count = refl;
   all = let a = ap length is ∙ length-range_with_len 0 (slots / 8) in let b = ap (λ n. n / 8) size in omega arith;
 }
 
@@ -224,3 +240,11 @@ live_cell (Some cell) h = has_some (has_node cell.state) cell.node h
 -- a slot with a node is live
 pub live_of : (t : Inside) (slot : ℕ) → IsSome (node_of (view_of t) slot) → live_at t.cells.items slot ≡ true
 live_of t slot h = live_cell (slice_get t.cells.items slot) h
+
+-- one is live at least where a slot is
+pub some_live : (t : Inside) (slot : ℕ) → IsKept t → live_at t.cells.items slot ≡ true → 1 ≤ t.live
+some_live t slot k h = let a = count_some t.cells.items slot h in let b = k.counted in omega arith
+
+-- there are no more live slots than slots
+pub live_within : (t : Inside) → IsKept t → t.live ≤ length t.cells.items
+live_within t k = let a = count_within t.cells.items in let b = k.counted in omega arith

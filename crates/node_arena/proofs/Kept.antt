@@ -2,19 +2,21 @@
 use Rattle.std.proofs.Common.{◌≡◌, ◌≢◌, ◌∙◌, ℕ, ◌+◌, ◌-◌, ◌/◌, ◌%◌, ◌<◌, ◌≤◌, List, [], ◌∷◌, ◌++◌, Bool, true, false, Option, None, Some, IsTrue, length, refl, sym, ap, subst, arith, inl, inr, length-append, slice_get}
 use Rattle.std.specs.Prelude.{nat_lt, nat_le, nat_eq, ◌||◌, if◌then◌else◌, vec_capacity}
 use Rattle.std.specs.List.{AllByRecursion, IsDistinct}
-use Rattle.std.proofs.lemmas.Bool.{false≢true, cases_Bool, cases_lt, eqb-true, eqb-false, ne_eqb, eq-eqb, lt-ltb, ltb-true, ltb-false}
+use Rattle.std.proofs.lemmas.Bool.{false≢true, cases_Bool, cases_lt, eqb-true, eqb-false, ne_eqb, eq-eqb, lt-ltb, ltb-true, ltb-false, and_parts, and_from}
 use Rattle.std.proofs.lemmas.Bool.Decides.{nat_tests}
 use Rattle.std.proofs.lemmas.Option.{slice_get_past}
 use Rattle.kj_base.specs.declared.nodes.Node.{Node}
-use Rattle.kj_base.specs.Places.{Row, row}
+use Rattle.kj_base.specs.Places.{Row, row, counts, one_if}
 use Rattle.kj_base.specs.Store.{IsBareOrNone, rows_after}
 use Rattle.node_arena.specs.declared.Cell.{Cell}
 use Rattle.node_arena.specs.declared.State.{State}
 use Rattle.node_arena.specs.declared.State.TheVariants.{Free, Bare, Covered}
 use Rattle.node_arena.specs.declared.NodeArena.TheInside.{Inside}
 use Rattle.node_arena.specs.Needs.{beyond, beyond_at, needed}
-use Rattle.node_arena.specs.Arenas.{Arenas, view_of, has_node, is_bare_state, live_in, bare_in, live_at, bare_at, place_of_live, place_before_slot, slot_needs, has_room, IsUnused, is_in, IsKept, below_slot, IsChosen, in_state, covered_by}
+use Rattle.node_arena.specs.Arenas.{Arenas, view_of, has_node, is_bare_state, live_in, bare_in, live_at, bare_at, place_of_live, place_before_slot, slot_needs, has_room, IsUnused, is_in, IsKept, below_slot, IsChosen, in_state, covered_by, live_count}
 use Rattle.node_arena.specs.Laws.{less_than_anew}
+use Rattle.node_table.specs.Laws.{counts_cons}
+use Rattle.node_arena.proofs.Counted.{count_changed, count_same}
 use Rattle.node_arena.proofs.Lists.{front_below, front_apart, in_push}
 use Rattle.node_arena.proofs.Standing.{IsPlaced}
 
@@ -69,6 +71,7 @@ pub record IsPut (old : Inside) (new : Arenas) (before : Option ℕ) (slot : ℕ
   pub written : IsWritten old.cells.items new.cells before slot node
   pub chosen : IsChosen (below_slot before) old.free.items new.free slot
   pub bare : IsBareOrNone (bare_at old.cells.items) before
+  pub live : new.live ≡ old.live + 1
 
 -- where it goes: before a bare slot, or into an unused arena
 pub data Where (old : Inside) (new : Arenas) (before : Option ℕ) (slot : ℕ) : Type 0 where
@@ -132,7 +135,7 @@ module _ (old : Inside) (new : Arenas) (before : Option ℕ) (slot : ℕ) (node 
   ]
 
   pub is_placed : IsPlaced (view_of old) new before slot
-  is_placed = record { was_free = was_free; now_live = now_live; others = live_others; size = p.written.size; chosen = p.chosen; before_live = before_live; unused = unused }
+  is_placed = record { was_free = was_free; now_live = now_live; others = live_others; size = p.written.size; chosen = p.chosen; before_live = before_live; unused = unused; live = p.live }
 
   -- the free arenas stay free
   apart_from : (arena : ℕ) → is_in arena new.free ≡ true → (is_in arena old.free.items ≡ true) × (slot / 8 ≢ arena)
@@ -260,8 +263,8 @@ module _ (old : Inside) (new : Arenas) (before : Option ℕ) (slot : ℕ) (node 
   within_by : (need free : ℕ) → IsTrue (nat_le need free) → need ≤ free
   within_by need free t = grind (arith, nat_tests)
 
-  pub rest_fits : (more : List Row) (count : ℕ) → 0 < count → IsTrue (has_room (view_of old) (row before count ∷ more)) → IsTrue (has_room new (rows_after slot count more))
-  rest_fits more count l t =
+  rest_needed : (more : List Row) (count : ℕ) → 0 < count → nat_le (needed (slot_needs old.cells.items) (row before count ∷ more)) (length old.free.items) ≡ true → nat_le (needed (slot_needs new.cells) (rows_after slot count more)) (length new.free) ≡ true
+  rest_needed more count l t =
       let a = within_by (needed (slot_needs old.cells.items) (row before count ∷ more)) (length old.free.items) t in
       let b = rest_needs count l in
       let c = less_needed more in
@@ -271,6 +274,35 @@ module _ (old : Inside) (new : Arenas) (before : Option ℕ) (slot : ℕ) (node 
             rw e (fits_by (needed (slot_needs new.cells) (row (Some slot) (count - 1) ∷ more)) (length new.free) (omega arith))
         | inr e ↦ rw e (fits_by (needed (slot_needs new.cells) more) (length new.free) (omega arith))
       ]
+
+  -- the nodes of the rest have slots
+  rest_counts : (more : List Row) (count : ℕ) → 0 < count → nat_le (old.live + counts (row before count ∷ more)) (length old.cells.items) ≡ true → nat_le (new.live + counts (rows_after slot count more)) (length new.cells) ≡ true
+  rest_counts more count l t =
+      let a = within_by (old.live + counts (row before count ∷ more)) (length old.cells.items) t in
+      let b = counts_cons (row before count) more in
+      let c = p.live in
+      let s = p.written.size in
+      elim (cases_Bool (nat_lt 1 count)) [
+        | inl e ↦
+            let k = counts_cons (row (Some slot) (count - 1)) more in
+            rw e (fits_by (new.live + counts (row (Some slot) (count - 1) ∷ more)) (length new.cells) (omega arith))
+        | inr e ↦ rw e (fits_by (new.live + counts more) (length new.cells) (omega arith))
+      ]
+
+  pub rest_fits : (more : List Row) (count : ℕ) → 0 < count → IsTrue (has_room (view_of old) (row before count ∷ more)) → IsTrue (has_room new (rows_after slot count more))
+  rest_fits more count l t =
+      let both = and_parts (nat_le (needed (slot_needs old.cells.items) (row before count ∷ more)) (length old.free.items)) (nat_le (old.live + counts (row before count ∷ more)) (length old.cells.items)) t in
+      and_from (nat_le (needed (slot_needs new.cells) (rows_after slot count more)) (length new.free)) (nat_le (new.live + counts (rows_after slot count more)) (length new.cells))
+      (rest_needed more count l both.0) (rest_counts more count l both.1)
+
+count_put : (old : Inside) (new : Arenas) (before : Option ℕ) (slot : ℕ) (node : Node) → IsKept old → IsPut old new before slot node → new.live ≡ live_count new.cells
+count_put old new before slot node k p =
+    let a = count_changed old.cells.items new.cells slot p.written.size (live_others old new before slot node k p) in
+    let b : one_if (live_at old.cells.items slot) ≡ 0 = ap one_if (was_free old new before slot node k p) in
+    let c : one_if (live_at new.cells slot) ≡ 1 = ap one_if (now_live old new before slot node k p) in
+    let d = k.counted in
+    let e = p.live in
+    omega arith
 
 pub kept_put : (old new : Inside) (before : Option ℕ) (slot : ℕ) (node : Node) → IsKept old → IsPut old (view_of new) before slot node → vec_capacity old.free ≤ vec_capacity new.free → IsKept new
 kept_put old new before slot node k p room =
@@ -285,6 +317,7 @@ kept_put old new before slot node k p room =
       apart = b.1;
       unused = new_unused old (view_of new) before slot node k p;
       free = λ arena l u. new_free old (view_of new) before slot node k p arena (omega arith) u;
+      counted = count_put old (view_of new) before slot node k p;
       lowest = new_lowest old (view_of new) before slot node k p;
     }
 
@@ -294,8 +327,8 @@ pub record IsSet (old new : List Cell) (slot : ℕ) : Type 0 where
   pub bare : (other : ℕ) → bare_at new other ≡ bare_at old other
   pub size : length new ≡ length old
 
-pub kept_set : (old new : Inside) (slot : ℕ) → IsKept old → IsSet old.cells.items new.cells.items slot → new.free ≡ old.free → IsKept new
-kept_set old new slot k s e =
+pub kept_set : (old new : Inside) (slot : ℕ) → IsKept old → IsSet old.cells.items new.cells.items slot → new.free ≡ old.free → new.live ≡ old.live → IsKept new
+kept_set old new slot k s e n =
     let eighth : length new.cells.items / 8 ≡ length old.cells.items / 8 = ap (λ n. n / 8) s.size in
     record {
       whole = ap (λ n. n % 8) s.size ∙ k.whole;
@@ -305,6 +338,7 @@ kept_set old new slot k s e =
       apart = rw e k.apart;
       unused = λ arena i other t. s.live other ∙ k.unused arena (rw e at i) other t;
       free = λ arena l u. rw e (k.free arena (omega arith) (λ other t. sym (s.live other) ∙ u other t));
+      counted = n ∙ k.counted ∙ sym (count_same old.cells.items new.cells.items s.size s.live);
       lowest = λ slot other b t l. s.live other ∙ k.lowest slot other (sym (s.bare slot) ∙ b) t l;
     }
 

@@ -1,5 +1,5 @@
 -- Lists of spots and of free arenas.
-use Rattle.std.proofs.Common.{◌≡◌, ◌∙◌, ℕ, ◌+◌, ◌<◌, List, [], ◌∷◌, ◌++◌, Bool, true, false, Some, refl, sym, ap, arith, inl, inr}
+use Rattle.std.proofs.Common.{◌≡◌, ◌∙◌, ℕ, ◌+◌, ◌<◌, List, [], ◌∷◌, ◌++◌, Bool, true, false, Some, length, refl, sym, ap, arith, inl, inr}
 use Rattle.std.specs.Prelude.{nat_eq, ◌==◌, ◌||◌}
 use Rattle.std.specs.List.{AllByRecursion, IsDistinct}
 use Rattle.std.proofs.lemmas.Bool.{false≢true, cases_Bool, or_parts, eqb-true, eqb-false, ne_eqb, eq-eqb}
@@ -55,6 +55,18 @@ found P n (x ∷ xs) h i = elim (cases_Bool (nat_eq x.number n)) [
 pub new_key : (key : ℕ) (spots : List Spot) → AreBelow key spots → has_key key spots ≡ false
 new_key key [] h = refl
 new_key key (x ∷ xs) h = let l = h.0 in rw (ne_eqb x.key key (λ e. absurd (omega arith))) (new_key key xs h.1)
+
+left_true : (a b : Bool) → a ≡ false → (a || b) ≡ true → b ≡ true
+left_true false b e t = t
+left_true true b e t = absurd (false≢true (sym e))
+
+-- one spot fewer where a number goes
+pub length_without : (n : ℕ) (spots : List Spot) → AreApart spots → is_at n spots ≡ true → length (spots_without n spots) + 1 ≡ length spots
+length_without n [] a t = absurd (false≢true t)
+length_without n (x ∷ xs) a t = elim (cases_Bool (nat_eq x.number n)) [
+  | inl e ↦ let k = ap length (kept_all n xs (at_same x.number n xs e a.0)) in rw e (omega arith)
+  | inr e ↦ let k = length_without n xs a.1 (left_true (nat_eq x.number n) (is_at n xs) e t) in rw e (omega arith)
+]
 
 key_push : (key : ℕ) (spots : List Spot) (x : Spot) → has_key key (spots ++ x ∷ []) ≡ (has_key key spots || (x.key == key))
 key_push key [] x = elim (cases_Bool (nat_eq x.key key)) [ inl e ↦ rw e refl | inr e ↦ rw e refl ]

@@ -9,7 +9,7 @@ use Rattle.node_table.specs.NodeTable.{is_at}
 use Rattle.node_table.proofs.Standing.{at_push, apart_push, apart_without, at_others, none_at}
 use Rattle.node_arena.specs.Arenas.{Arenas, live_at, IsSpot, Stands, IsUnused, below_slot, IsChosen}
 use Rattle.node_arena.specs.Laws.{if_new, has_key}
-use Rattle.node_arena.proofs.Lists.{all_at, all_with, all_push, all_without, IsFound, found, new_key, arenas_push, arenas_without}
+use Rattle.node_arena.proofs.Lists.{all_at, all_with, all_push, all_without, IsFound, found, new_key, arenas_push, arenas_without, length_without}
 
 -- a node was placed in a slot that wasn't live: before a live one, or in an arena that was unused
 pub record IsPlaced (old new : Arenas) (before : Option ℕ) (slot : ℕ) : Type 0 where
@@ -20,6 +20,7 @@ pub record IsPlaced (old new : Arenas) (before : Option ℕ) (slot : ℕ) : Type
   pub chosen : IsChosen (below_slot before) old.free new.free slot
   pub before_live : (n : ℕ) → before ≡ Some n → live_at old.cells n ≡ true
   pub unused : below_slot before ≡ None → IsUnused old.cells (slot / 8)
+  pub live : new.live ≡ old.live + 1
 
 or_true : (a : Bool) → (a || (true || false)) ≡ true
 or_true true = refl
@@ -35,6 +36,9 @@ each_push old new before slot spots x p e h other = elim (cases_Bool (nat_eq x.n
   | inl s ↦ at_push other spots x ∙ rw s (or_true (is_at other spots) ∙ sym (ap (live_at new.cells) (sym (eqb-true x.number other s) ∙ e) ∙ p.now_live))
   | inr s ↦ at_push other spots x ∙ rw s (or_nothing (is_at other spots) ∙ h other ∙ sym (p.others other (λ t. eqb-false x.number other s (e ∙ sym t))))
 ]
+
+count_push : (old new : Arenas) (before : Option ℕ) (slot : ℕ) (spots : List Spot) (x : Spot) → IsPlaced old new before slot → length spots ≡ old.live → length (spots ++ x ∷ []) ≡ new.live
+count_push old new before slot spots x p h = let a = length-append spots (x ∷ []) in let b = p.live in omega arith
 
 -- one that goes anew has a new key
 stands_anew : (old new : Arenas) (before : Option ℕ) (slot key : ℕ) (spots : List Spot) → IsPlaced old new before slot → below_slot before ≡ None → Stands old spots → AreBelow key spots → Stands new (spots ++ spot_anew slot key ∷ [])
@@ -71,6 +75,7 @@ stands_anew old new before slot key spots p none s below =
           let f = s.all in
           let z = ap (λ n. n / 8) p.size in
           omega arith;
+      count = count_push old new before slot spots x p s.count;
     }
 
 -- one before another stands in its arena
@@ -100,6 +105,7 @@ stands_below old new n slot spots p some low s f =
           let g = s.all in
           let z = ap (λ n. n / 8) p.size in
           omega arith;
+      count = count_push old new (Some n) slot spots x p s.count;
     }
   where
     lower : (n : ℕ) → 0 < n % 8 → (n - 1) % 8 ≡ n % 8 - 1
@@ -134,6 +140,7 @@ pub record IsFreed (old new : Arenas) (slot : ℕ) : Type 0 where
   pub others : (other : ℕ) → other ≢ slot → live_at new.cells other ≡ live_at old.cells other
   pub size : length new.cells ≡ length old.cells
   pub free : (IsUnused new.cells (slot / 8) × (length new.free ≡ length old.free + 1)) ⊎ ((IsUnused new.cells (slot / 8) → ⊥) × (new.free ≡ old.free))
+  pub live : new.live + 1 ≡ old.live
 
 each_less : (old new : Arenas) (slot : ℕ) (spots : List Spot) → IsFreed old new slot → ((other : ℕ) → is_at other spots ≡ live_at old.cells other) → (other : ℕ) → is_at other (spots_without slot spots) ≡ live_at new.cells other
 each_less old new slot spots p h other = elim (cases_Bool (nat_eq other slot)) [
@@ -188,4 +195,5 @@ freed_stands old new slot spots p s =
             let l : length new.free ≡ length old.free = ap length q.1 in
             omega arith
       ];
+      count = let a = length_without slot spots s.apart there in let b = p.live in let d = s.count in omega arith;
     }

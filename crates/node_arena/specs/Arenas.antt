@@ -1,8 +1,8 @@
 -- What a contract sees of a `NodeArena`.
-use Rattle.std.specs.Prelude.{◌≡◌, ℕ, ◌+◌, ◌-◌, ◌/◌, ◌%◌, ◌^◌, ◌<◌, ◌≤◌, List, [], ◌∷◌, ◌++◌, Option, None, Some, Bool, true, false, length, slice_get, nat_lt, nat_le, nat_eq, ◌==◌, if◌then◌else◌, vec_capacity}
+use Rattle.std.specs.Prelude.{◌≡◌, ℕ, ◌+◌, ◌-◌, ◌/◌, ◌%◌, ◌^◌, ◌<◌, ◌≤◌, List, [], ◌∷◌, ◌++◌, Option, None, Some, Bool, true, false, length, slice_get, nat_lt, nat_le, nat_eq, ◌==◌, ◌&&◌, if◌then◌else◌, vec_capacity}
 use Rattle.std.specs.List.{list_any, AllByRecursion, IsDistinct}
 use Rattle.kj_base.specs.declared.nodes.Node.{Node}
-use Rattle.kj_base.specs.Places.{Spot, Row, arenas}
+use Rattle.kj_base.specs.Places.{Spot, Row, arenas, counts, one_if}
 use Rattle.node_table.specs.NodeTable.{is_at, AreApart}
 use Rattle.node_arena.specs.declared.Cell.{Cell}
 use Rattle.node_arena.specs.declared.State.{State}
@@ -10,14 +10,15 @@ use Rattle.node_arena.specs.declared.State.TheVariants.{Free, Bare, Covered}
 use Rattle.node_arena.specs.declared.NodeArena.TheInside.{Inside}
 use Rattle.node_arena.specs.Needs.{beyond_at, needed}
 
--- the cells by slot, eight for each arena, and the free arenas
+-- the cells by slot, eight for each arena, the free arenas, and how many slots are live
 pub record Arenas : Type 0 where
   pub cells : List Cell
   pub free : List ℕ
+  pub live : ℕ
 
 -- what is seen
 abbrev pub view_of : Inside → Arenas
-view_of t = record { cells = t.cells.items; free = t.free.items }
+view_of t = record { cells = t.cells.items; free = t.free.items; live = t.live }
 
 -- whether a cell in this state has a node
 abbrev pub has_node : State → Bool
@@ -89,9 +90,14 @@ place_before_slot cells (Some slot) = place_of_live cells slot
 abbrev pub slot_needs : List Cell → Row → ℕ
 slot_needs cells r = beyond_at r.count (place_before_slot cells r.before)
 
--- the needs of the rows are at most the free arenas
+-- the needs of the rows are at most the free arenas, and their nodes at most the slots that aren't live
 abbrev pub has_room : Arenas → List Row → Bool
-has_room t rows = nat_le (needed (slot_needs t.cells) rows) (length t.free)
+has_room t rows = nat_le (needed (slot_needs t.cells) rows) (length t.free) && nat_le (t.live + counts rows) (length t.cells)
+
+-- how many of these cells have a node
+abbrev pub live_count : List Cell → ℕ
+live_count [] = 0
+live_count (cell ∷ cells) = one_if (has_node cell.state) + live_count cells
 
 -- an arena has no live slot
 abbrev pub IsUnused : List Cell → ℕ → Type 0
@@ -101,7 +107,8 @@ IsUnused cells arena = (slot : ℕ) → slot / 8 ≡ arena → live_at cells slo
 abbrev pub is_in : ℕ → List ℕ → Bool
 is_in e xs = list_any (λ x. x == e) xs
 
--- the free arenas are those without a live slot, each once; below a bare slot none of its arena is live
+-- the free arenas are those without a live slot, each once; below a bare slot none of its arena is live; the live slots are
+-- counted
 pub record IsKept (t : Inside) : Type 0 where
   pub whole : length t.cells.items % 8 ≡ 0
   pub size : length t.cells.items < 2 ^ 32
@@ -110,6 +117,7 @@ pub record IsKept (t : Inside) : Type 0 where
   pub apart : IsDistinct nat_eq t.free.items
   pub unused : (arena : ℕ) → is_in arena t.free.items ≡ true → IsUnused t.cells.items arena
   pub free : (arena : ℕ) → arena < length t.cells.items / 8 → IsUnused t.cells.items arena → is_in arena t.free.items ≡ true
+  pub counted : t.live ≡ live_count t.cells.items
   pub lowest : (slot other : ℕ) → bare_at t.cells.items slot ≡ true → other / 8 ≡ slot / 8 → other < slot → live_at t.cells.items other ≡ false
 
 -- a spot has the place of its number and the key of its arena, and the key tells the arena
@@ -126,6 +134,7 @@ pub record Stands (t : Arenas) (spots : List Spot) : Type 0 where
   pub each : (slot : ℕ) → is_at slot spots ≡ live_at t.cells slot
   pub spots_are : AllByRecursion (IsSpot arena_of key_of) spots
   pub all : length t.free + arenas spots ≡ length t.cells / 8
+  pub count : length spots ≡ t.live
 
 -- the slot below the one before which a node goes, where its arena has one
 abbrev pub below_slot : Option ℕ → Option ℕ

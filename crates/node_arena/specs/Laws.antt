@@ -1,19 +1,21 @@
 -- The laws of a store, for arenas.
 use Rattle.std.proofs.Common.{◌≡◌, ◌∙◌, ℕ, ◌+◌, ◌-◌, ◌/◌, ◌%◌, ◌<◌, ◌≤◌, List, [], ◌∷◌, ◌++◌, Bool, true, false, Option, None, Some, IsSome, IsTrue, length, map, refl, sym, ap, arith, inl, inr, slice_get}
-use Rattle.std.specs.Prelude.{nat_lt, nat_le, nat_eq, ◌==◌, ◌||◌, fold, sum, if◌then◌else◌}
+use Rattle.std.specs.Prelude.{nat_lt, nat_le, nat_eq, ◌==◌, ◌||◌, ◌&&◌, fold, sum, if◌then◌else◌}
 use Rattle.std.specs.List.{list_any, AllByRecursion, IsDistinct}
-use Rattle.std.proofs.lemmas.Bool.{false≢true, cases_Bool, cases_lt, or_parts, eqb-true, eqb-false, ne_eqb, eq-eqb}
+use Rattle.std.proofs.lemmas.Bool.{false≢true, cases_Bool, cases_lt, or_parts, and_parts, and_from, eqb-true, eqb-false, ne_eqb, eq-eqb}
 use Rattle.std.proofs.lemmas.Bool.Decides.{nat_tests}
 use Rattle.std.proofs.lemmas.Option.{slice_get_past}
+use Rattle.std.proofs.lemmas.List.Sums.{sum-map, sum_by-append}
 use Rattle.std.proofs.lemmas.Map.Steps.{length-le_from_distinct_below}
 use Rattle.kj_base.specs.declared.nodes.Node.{Node}
-use Rattle.kj_base.specs.Places.{Spot, Row, row, arenas, needs, needs_at, needs_over, one_if, arenas_fit, spot_of, spot_as, row_as, before_as, IsOneToOne}
+use Rattle.kj_base.specs.Places.{Spot, Row, row, arenas, needs, needs_at, needs_over, one_if, counts, arenas_fit, table_fits, spot_of, spot_as, row_as, before_as, IsOneToOne}
 use Rattle.kj_base.specs.Store.{is_named}
 use Rattle.node_table.specs.NodeTable.{is_at, AreApart}
+use Rattle.node_table.specs.Laws.{counts_cons, table_renamed, table_unplaced}
 use Rattle.node_arena.specs.declared.Cell.{Cell}
 use Rattle.node_arena.specs.declared.State.{State}
 use Rattle.node_arena.specs.declared.State.TheVariants.{Free, Bare, Covered}
-use Rattle.node_arena.specs.Needs.{beyond, beyond_at, needed, place_in, place_before, row_needs, needs_fit, AreShort}
+use Rattle.node_arena.specs.Needs.{beyond, beyond_at, needed, place_in, place_before, row_needs, needs_fit, places_fit, AreShort}
 use Rattle.node_arena.specs.Arenas.{Arenas, has_node, is_bare_state, node_if, node_in, bare_in, live_at, node_of, slot_count, is_bare, place_of_live, place_before_slot, slot_needs, has_room, IsSpot, Stands}
 
 none_past : (cells : List Cell) (slot : ℕ) → length cells ≤ slot → IsSome (node_in (slice_get cells slot)) → slot < length cells
@@ -73,14 +75,27 @@ needed_append : (each : Row → ℕ) (front back : List Row) → needed each (fr
 needed_append each [] back = omega arith
 needed_append each (r ∷ front) back = let h = needed_append each front back in omega arith
 
-fewer : (a b n : ℕ) → a ≤ b → IsTrue (nat_le b n) → IsTrue (nat_le a n)
-fewer a b n h t = grind (arith, nat_tests)
+counts_append : (front back : List Row) → counts (front ++ back) ≡ counts front + counts back
+counts_append front back =
+    let f = λ (r : Row). r.count in
+    omega (arith, sum-map f (front ++ back), sum_by-append f front back, sum-map f front, sum-map f back)
+
+less : (a b n : ℕ) → a ≤ b → nat_le b n ≡ true → nat_le a n ≡ true
+less a b n h t = grind (arith, nat_tests)
+
+-- fewer needs and fewer nodes
+fewer : (a b n c d m : ℕ) → a ≤ b → c ≤ d → IsTrue (nat_le b n && nat_le d m) → IsTrue (nat_le a n && nat_le c m)
+fewer a b n c d m h k t =
+    let p = and_parts (nat_le b n) (nat_le d m) t in
+    and_from (nat_le a n) (nat_le c m) (less a b n h p.0) (less c d m k p.1)
 
 -- rows may be left out
 pub arena_left_out : (t : Arenas) (front : List Row) (left : Row) (back : List Row) → IsTrue (has_room t (front ++ left ∷ back)) → IsTrue (has_room t (front ++ back))
 arena_left_out t front left back h =
     let f = slot_needs t.cells in
-    fewer _ (needed f (front ++ left ∷ back)) (length t.free) (omega (arith, needed_append f front (left ∷ back), needed_append f front back)) h
+    fewer _ (needed f (front ++ left ∷ back)) (length t.free) _ (t.live + counts (front ++ left ∷ back)) (length t.cells)
+    (omega (arith, needed_append f front (left ∷ back), needed_append f front back))
+    (omega (arith, counts_append front (left ∷ back), counts_append front back, counts_cons left back)) h
 
 less_for_one : (place : ℕ) → beyond 1 place ≤ beyond 2 place
 less_for_one place = grind (arith, nat_tests)
@@ -93,8 +108,9 @@ less_one_at (Some place) = less_for_one place
 pub arena_one_of_two : (t : Arenas) (front : List Row) (before : Option ℕ) (back : List Row) → IsTrue (has_room t (front ++ row before 2 ∷ back)) → IsTrue (has_room t (front ++ row before 1 ∷ back))
 arena_one_of_two t front before back h =
     let f = slot_needs t.cells in
-    fewer _ (needed f (front ++ row before 2 ∷ back)) (length t.free)
-    (omega (arith, needed_append f front (row before 2 ∷ back), needed_append f front (row before 1 ∷ back), less_one_at (place_before_slot t.cells before))) h
+    fewer _ (needed f (front ++ row before 2 ∷ back)) (length t.free) _ (t.live + counts (front ++ row before 2 ∷ back)) (length t.cells)
+    (omega (arith, needed_append f front (row before 2 ∷ back), needed_append f front (row before 1 ∷ back), less_one_at (place_before_slot t.cells before)))
+    (omega (arith, counts_append front (row before 2 ∷ back), counts_append front (row before 1 ∷ back), counts_cons (row before 2) back, counts_cons (row before 1) back)) h
 
 pub less_above : (count place : ℕ) → beyond count place ≤ beyond count 0
 less_above count place = grind (arith, nat_tests)
@@ -107,8 +123,9 @@ less_than_anew count (Some place) = less_above count place
 pub arena_before_bare : (t : Arenas) (front : List Row) (slot count : ℕ) (back : List Row) → is_bare t slot ≡ true → is_named slot (front ++ back) ≡ false → IsTrue (has_room t (front ++ row None count ∷ back)) → IsTrue (has_room t (front ++ row (Some slot) count ∷ back))
 arena_before_bare t front slot count back bare named h =
     let f = slot_needs t.cells in
-    fewer _ (needed f (front ++ row None count ∷ back)) (length t.free)
-    (omega (arith, needed_append f front (row None count ∷ back), needed_append f front (row (Some slot) count ∷ back), less_than_anew count (place_of_live t.cells slot))) h
+    fewer _ (needed f (front ++ row None count ∷ back)) (length t.free) _ (t.live + counts (front ++ row None count ∷ back)) (length t.cells)
+    (omega (arith, needed_append f front (row None count ∷ back), needed_append f front (row (Some slot) count ∷ back), less_than_anew count (place_of_live t.cells slot)))
+    (omega (arith, counts_append front (row None count ∷ back), counts_append front (row (Some slot) count ∷ back), counts_cons (row None count) back, counts_cons (row (Some slot) count) back)) h
 
 place_found : (arena_of key_of : ℕ → ℕ) (n : ℕ) (spots : List Spot) → AllByRecursion (IsSpot arena_of key_of) spots → (if is_at n spots then Some (n % 8) else None) ≡ place_in (spot_of n spots)
 place_found arena_of key_of n [] h = refl
@@ -128,11 +145,23 @@ needed_same f g (r ∷ rows) h = let k = needed_same f g rows h in let e = h r i
 moved_sum : (need free used all : ℕ) → free + used ≡ all → nat_le need free ≡ nat_le (need + used) all
 moved_sum need free used all e = grind (arith, nat_tests)
 
--- what fits is known from the spots
-pub arena_ruled : (t : Arenas) (spots : List Spot) (rows : List Row) → Stands t spots → has_room t rows ≡ needs_fit (slot_count t) spots rows
-arena_ruled t spots rows s =
+needs_ruled : (t : Arenas) (spots : List Spot) (rows : List Row) → Stands t spots → nat_le (needed (slot_needs t.cells) rows) (length t.free) ≡ needs_fit (slot_count t) spots rows
+needs_ruled t spots rows s =
     ap (λ n. nat_le n (length t.free)) (needed_same (slot_needs t.cells) (row_needs spots) rows (λ r. ap (beyond_at r.count) (same_place t spots r.before s)))
     ∙ moved_sum (needed (row_needs spots) rows) (length t.free) (arenas spots) (length t.cells / 8) s.all
+
+-- what fits is known from the spots
+pub arena_ruled : (t : Arenas) (spots : List Spot) (rows : List Row) → Stands t spots → has_room t rows ≡ places_fit (slot_count t) spots rows
+arena_ruled t spots rows s =
+    ap (λ b. b && nat_le (t.live + counts rows) (length t.cells)) (needs_ruled t spots rows s)
+    ∙ ap (λ n. needs_fit (slot_count t) spots rows && nat_le (n + counts rows) (length t.cells)) (sym s.count)
+
+-- where rows fit, there are slots for the live nodes and for theirs
+pub arena_takes : (slots : ℕ) (spots : List Spot) (rows : List Row) → places_fit slots spots rows ≡ true → length spots + counts rows ≤ slots
+arena_takes slots spots rows h = let p = and_parts (needs_fit slots spots rows) (table_fits slots spots rows) h in within (length spots + counts rows) slots p.1
+  where
+    within : (n slots : ℕ) → nat_le n slots ≡ true → n ≤ slots
+    within n slots t = grind (arith, nat_tests)
 
 -- one more arena where a key is new
 abbrev pub if_new : Bool → ℕ
@@ -181,11 +210,16 @@ needed_renamed rename spots (r ∷ rows) one =
     let e = ap (beyond_at r.count) (before_renamed rename r.before spots one) in
     omega (arith, k, e)
 
--- numbers don't matter
-pub arena_renamed : (slot_count : ℕ) (rename : ℕ → ℕ) (spots : List Spot) (rows : List Row) → IsOneToOne rename → needs_fit slot_count (map (spot_as rename) spots) (map (row_as rename) rows) ≡ needs_fit slot_count spots rows
-arena_renamed slot_count rename spots rows one =
+needs_renamed : (slot_count : ℕ) (rename : ℕ → ℕ) (spots : List Spot) (rows : List Row) → IsOneToOne rename → needs_fit slot_count (map (spot_as rename) spots) (map (row_as rename) rows) ≡ needs_fit slot_count spots rows
+needs_renamed slot_count rename spots rows one =
     ap (λ n. nat_le (n + arenas (map (spot_as rename) spots)) (slot_count / 8)) (needed_renamed rename spots rows one)
     ∙ ap (λ n. nat_le (needed (row_needs spots) rows + n) (slot_count / 8)) (arenas_as rename spots)
+
+-- numbers don't matter
+pub arena_renamed : (slot_count : ℕ) (rename : ℕ → ℕ) (spots : List Spot) (rows : List Row) → IsOneToOne rename → places_fit slot_count (map (spot_as rename) spots) (map (row_as rename) rows) ≡ places_fit slot_count spots rows
+arena_renamed slot_count rename spots rows one =
+    ap (λ b. b && table_fits slot_count (map (spot_as rename) spots) (map (row_as rename) rows)) (needs_renamed slot_count rename spots rows one)
+    ∙ ap (λ b. needs_fit slot_count spots rows && b) (table_renamed slot_count rename spots rows one)
 
 sum_from : (a : ℕ) (xs : List ℕ) → fold (λ (m n : ℕ). m + n) a xs ≡ a + fold (λ (m n : ℕ). m + n) 0 xs
 sum_from a [] = omega arith
@@ -213,18 +247,23 @@ short_needed : (spots : List Spot) (rows : List Row) → AreShort rows → neede
 short_needed spots [] h = refl
 short_needed spots (r ∷ rows) h = let k = short_needed spots rows h.1 in let e = short_at spots r.count r.before h.0.0 h.0.1 in omega (arith, k, e)
 
--- rows of at most eight nodes fit as the arenas say
-pub short_rows_fit : (slots : ℕ) (spots : List Spot) (rows : List Row) → AreShort rows → needs_fit slots spots rows ≡ arenas_fit slots spots rows
-short_rows_fit slots spots rows h = ap (λ n. nat_le (n + arenas spots) (slots / 8)) (short_needed spots rows h ∙ needed_is_sum (needs spots) rows)
+-- rows of at most eight nodes fit as the arenas say, and the slots
+pub short_rows_fit : (slots : ℕ) (spots : List Spot) (rows : List Row) → AreShort rows → places_fit slots spots rows ≡ (arenas_fit slots spots rows && table_fits slots spots rows)
+short_rows_fit slots spots rows h = ap (λ n. nat_le (n + arenas spots) (slots / 8) && table_fits slots spots rows) (short_needed spots rows h ∙ needed_is_sum (needs spots) rows)
 
 needed_unplaced : (spots : List Spot) (number count : ℕ) → spot_of number spots ≡ None → row_needs spots (row (Some number) count) ≡ row_needs spots (row None count)
 needed_unplaced spots number count h = ap (λ x. beyond_at count (place_in x)) h
 
--- a row before a node that isn't there is one anew
-pub arena_unplaced : (slot_count : ℕ) (spots : List Spot) (front : List Row) (number count : ℕ) (back : List Row) → spot_of number spots ≡ None → needs_fit slot_count spots (front ++ row (Some number) count ∷ back) ≡ needs_fit slot_count spots (front ++ row None count ∷ back)
-arena_unplaced slot_count spots front number count back h =
+needs_unplaced : (slot_count : ℕ) (spots : List Spot) (front : List Row) (number count : ℕ) (back : List Row) → spot_of number spots ≡ None → needs_fit slot_count spots (front ++ row (Some number) count ∷ back) ≡ needs_fit slot_count spots (front ++ row None count ∷ back)
+needs_unplaced slot_count spots front number count back h =
     let f = row_needs spots in
     ap (λ n. nat_le (n + arenas spots) (slot_count / 8))
     (needed_append f front (row (Some number) count ∷ back)
     ∙ ap (λ n. needed f front + (n + needed f back)) (needed_unplaced spots number count h)
     ∙ sym (needed_append f front (row None count ∷ back)))
+
+-- a row before a node that isn't there is one anew
+pub arena_unplaced : (slot_count : ℕ) (spots : List Spot) (front : List Row) (number count : ℕ) (back : List Row) → spot_of number spots ≡ None → places_fit slot_count spots (front ++ row (Some number) count ∷ back) ≡ places_fit slot_count spots (front ++ row None count ∷ back)
+arena_unplaced slot_count spots front number count back h =
+    ap (λ b. b && table_fits slot_count spots (front ++ row (Some number) count ∷ back)) (needs_unplaced slot_count spots front number count back h)
+    ∙ ap (λ b. needs_fit slot_count spots (front ++ row None count ∷ back) && b) (table_unplaced slot_count spots front number count back h)

@@ -1,7 +1,7 @@
 -- How many free arenas the nodes of rows need.
-use Rattle.std.specs.Prelude.{◌≡◌, ℕ, ◌+◌, ◌-◌, ◌/◌, ◌<◌, ◌≤◌, List, [], ◌∷◌, Option, None, Some, Bool, nat_lt, nat_le, if◌then◌else◌}
+use Rattle.std.specs.Prelude.{◌≡◌, ◌&&◌, ℕ, ◌+◌, ◌-◌, ◌/◌, ◌<◌, ◌≤◌, List, [], ◌∷◌, Option, None, Some, Bool, nat_lt, nat_le, if◌then◌else◌}
 use Rattle.std.specs.List.{AllByRecursion}
-use Rattle.kj_base.specs.Places.{Spot, Row, spot_of, arenas}
+use Rattle.kj_base.specs.Places.{Spot, Row, spot_of, arenas, table_fits}
 
 -- how many arenas so many nodes need that go before one at this place: none where they fit below it
 abbrev pub beyond : ℕ → ℕ → ℕ
@@ -34,6 +34,10 @@ row_needs spots r = beyond_at r.count (place_before spots r.before)
 -- arenas of 8 slots: the needs and the arenas in use are at most the arenas that there are
 abbrev pub needs_fit : ℕ → List Spot → List Row → Bool
 needs_fit slots spots rows = nat_le (needed (row_needs spots) rows + arenas spots) (slots / 8)
+
+-- what fits into arenas: the needs do, and there are slots for the live nodes and those of the rows
+abbrev pub places_fit : ℕ → List Spot → List Row → Bool
+places_fit slots spots rows = needs_fit slots spots rows && table_fits slots spots rows
 
 -- rows of 1 to 8 nodes each
 abbrev pub AreShort : List Row → Type 0

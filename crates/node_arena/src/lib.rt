@@ -1,13 +1,13 @@
 //! The store of nodes in arenas of eight slots, so that a chain of continuations stands in one piece of memory.
 #![tactic(auto)]
 
-ghost use Rattle.std.specs.Prelude.{◌≡◌, ◌≢◌, ◌+◌, ◌*◌, ◌/◌, ◌%◌, ◌^◌, ◌<◌, ◌≤◌, ◌↔◌, ◌++◌, ◌∷◌, ℕ, None, Some, IfOk, IfSome, IsTrue, IsSome, [], true, false, nat_le, length, slice_get, vec_len, vec_capacity};
+ghost use Rattle.std.specs.Prelude.{◌≡◌, ◌≢◌, ◌+◌, ◌*◌, ◌/◌, ◌%◌, ◌^◌, ◌<◌, ◌≤◌, ◌↔◌, ◌++◌, ◌∷◌, ◌&&◌, ℕ, List, None, Some, IfOk, IfSome, IsTrue, IsSome, [], true, false, nat_le, length, slice_get, vec_len, vec_capacity};
 ghost use Rattle.std.specs.List.{push, range_with_len};
 ghost use Rattle.node_arena.specs.declared.State.TheVariants.{Bare};
 ghost use Rattle.kj_base.specs.Store.{rows_of, row_of, slot_number, KeepsOthers};
-ghost use Rattle.node_arena.specs.Needs.{beyond_at, needed, needs_fit, SameForShortRows};
-ghost use Rattle.kj_base.specs.Places.{arenas_fit};
-ghost use Rattle.node_arena.specs.Arenas.{live_in, live_at, node_in, place_before_slot, slot_needs, IsUnused, below_slot, IsChosen, in_state, Covers, with_node, Stands, has_node};
+ghost use Rattle.node_arena.specs.Needs.{beyond_at, needed, places_fit, SameForShortRows};
+ghost use Rattle.kj_base.specs.Places.{Spot, Row as RowSeen, arenas_fit, counts, table_fits};
+ghost use Rattle.node_arena.specs.Arenas.{live_in, live_at, node_in, place_before_slot, slot_needs, IsUnused, below_slot, IsChosen, in_state, Covers, with_node, Stands, has_node, node_of};
 
 use kj_base::{Form, NoMemory, Node, NodeId, Row, Slot, Store};
 use std::alloc::Global;
@@ -45,6 +45,8 @@ pub struct NodeArena {
     cells: Vec<Cell>,
     // The arenas without a live slot.
     free: Vec<u32>,
+    // How many slots are live.
+    live: u32,
 }
 
 impl Model for NodeArena {
@@ -64,11 +66,16 @@ impl NodeArena {
     pub fn new(alloc: Global, slots: u32) -> Result<NodeArena, NoMemory>
         requires { slots % 8 ≡ 0 }
         ensures empty { IfOk result (λ t. Stands t []) }
+        ensures no_nodes { IfOk result (λ t. (slot : ℕ) → node_of t slot ≡ None) }
         ensures slots { IfOk result (λ t. length t.cells ≡ slots) }
     {
         let cells = free_cells(alloc, slots as usize)?;
         let free = numbers_below(alloc, slots / ARENA)?;
-        Ok(NodeArena { cells, free })
+        Ok(NodeArena {
+            cells,
+            free,
+            live: 0,
+        })
     }
 
     /// Whether an arena is free: exactly when it has no live slot.
@@ -80,10 +87,17 @@ impl NodeArena {
     }
 }
 
-/// Rows of one to eight nodes each fit where the arenas do: a row needs one free arena where it goes anew or where
-/// it has more nodes than there are slots below the one before which it goes, and else none.
+/// Rows of one to eight nodes each fit where the arenas do, and the slots: a row needs one free arena where it goes
+/// anew or where it has more nodes than there are slots below the one before which it goes, and else none.
 pub fn short_rows_fit()
-    ensures { (slots : ℕ) → SameForShortRows (needs_fit slots) (arenas_fit slots) }
+    ensures { (slots : ℕ) → SameForShortRows (places_fit slots)
+        (λ spots rows. arenas_fit slots spots rows && table_fits slots spots rows) }
+{}
+
+/// Where rows fit, there are slots for the live nodes and for theirs.
+pub fn takes_no_more()
+    ensures { (slots : ℕ) (spots : List Spot) (rows : List RowSeen)
+        → places_fit slots spots rows ≡ true → length spots + counts rows ≤ slots }
 {}
 
 // So many cells without a node.
@@ -190,17 +204,21 @@ fn needs(cells: &Vec<Cell>, row: &Row) -> usize
     arenas_beyond(row.count, place_before(cells, row.before))
 }
 
-// Whether so many free arenas are enough for these rows.
-fn are_enough(cells: &Vec<Cell>, free: usize, rows: &[Row]) -> bool
-    ensures { result ≡ nat_le (needed (slot_needs cells.now.items) (rows_of rows.now)) free }
+// Whether so many free arenas and so many slots are enough for these rows.
+fn are_enough(cells: &Vec<Cell>, free: usize, slots: usize, rows: &[Row]) -> bool
+    ensures { result ≡ (nat_le (needed (slot_needs cells.now.items) (rows_of rows.now)) free
+        && nat_le (counts (rows_of rows.now)) slots) }
 {
-    let mut left = free;
+    let mut arenas = free;
+    let mut left = slots;
     for row in rows {
         let needs = needs(cells, row);
-        if left < needs {
+        let count = row.count as usize;
+        if arenas < needs || left < count {
             return false;
         }
-        left -= needs;
+        arenas -= needs;
+        left -= count;
     }
     true
 }
@@ -313,7 +331,7 @@ fn give(free: &mut Vec<u32>, arena: u32)
 
 impl Store for NodeArena {
     ghost use Rattle.node_arena.specs.Arenas.{Arenas, slot_count, node_of, is_bare, stands_before, has_room, Stands};
-    ghost use Rattle.node_arena.specs.Needs.{needs_fit};
+    ghost use Rattle.node_arena.specs.Needs.{places_fit};
 
     ghost slots = { slot_count };
 
@@ -325,15 +343,17 @@ impl Store for NodeArena {
 
     ghost room = { has_room };
 
-    ghost rule = { needs_fit };
+    ghost rule = { places_fit };
 
     ghost stands = { Stands };
 
     fn fits(&self, rows: &[Row]) -> bool {
-        are_enough(&self.cells, self.free.len(), rows)
+        let slots = self.cells.len() - self.live as usize;
+        are_enough(&self.cells, self.free.len(), slots, rows)
     }
 
     fn place(&mut self, before: Option<Slot>, node: Node) -> Slot {
+        self.live += 1;
         let slot = choose(&mut self.free, slot_below(before));
         cover_before(&mut self.cells, before);
         put(&mut self.cells, slot, node);
@@ -350,6 +370,7 @@ impl Store for NodeArena {
 
     fn free(&mut self, slot: Slot) {
         mark(&mut self.cells, slot.0 as usize, State::Free);
+        self.live -= 1;
         let arena = slot.0 / ARENA;
         if is_unused(&self.cells, arena as usize) {
             give(&mut self.free, arena);

@@ -3,7 +3,7 @@ ghost use Rattle.std.specs.Prelude.{◌≡◌, ◌≢◌, ◌∷◌, [], true, S
 ghost use Rattle.kj_base.specs.Places.{row};
 ghost use Rattle.node_arena.specs.Arenas.{node_of, is_bare, has_room};
 
-use crate::{NodeArena, short_rows_fit};
+use crate::{NodeArena, short_rows_fit, takes_no_more};
 use kj_base::{Form, Node, NodeId, Row, Slot, Store, place_two};
 use std::test::Fail;
 
@@ -79,6 +79,9 @@ fn an_arena_is_free_without_a_live_node(rt: HostRuntime) -> Result<(), Fail> {
     assert_eq!(rt; second, Slot(6));
     assert!(rt; arena.fits(&[row(Some(second), 6)]));
     assert!(rt; !arena.fits(&[row(Some(second), 7)]));
+    // No more nodes than slots, whatever the place.
+    assert!(rt; !arena.fits(&[row(Some(first), 7)]));
+    assert!(rt; arena.fits(&[row(Some(first), 6)]));
     assert!(rt; !arena.fits(&[row(None, 1)]));
     // One of the two still lives.
     free_first(&mut arena, first, second);
@@ -118,5 +121,6 @@ fn a_chain_fills_arenas(rt: HostRuntime) -> Result<(), Fail> {
     assert!(rt; !arenas.fits(&[row(last, 5)]));
     assert_eq!(rt; chain(&mut arenas, 1), None);
     short_rows_fit();
+    takes_no_more();
     Ok(())
 }

@@ -88,7 +88,7 @@ fn runs_of_steps(rt: HostRuntime) -> Result<(), Fail> {
     Ok(())
 }
 
-// A step that gives a promise of the same step, again and again: no more than 24 nodes are ever live.
+// A step that gives a promise of the same step, again and again: its nodes are never in more than three arenas.
 #[test]
 fn promise_loop(rt: HostRuntime) -> Result<(), Fail> {
     let alloc = rt.alloc();

@@ -16,7 +16,7 @@ pub const TWO_LOG: &[u8] =
     b"free 1\nrun 2 10 value\nfree 2\nfree 3\nfree 4\nrun 5 11 value\nfree 5\nfree 6\n";
 
 // Octets, the status of `run` on them, and what it writes.
-const SCRIPTS: [(&[u8], u8, &[u8]); 22] = [
+const SCRIPTS: [(&[u8], u8, &[u8]); 25] = [
     (b"", 0, b""),
     (
         b"later 1\nthen 2 1 10 -\ndetach 2\nturn\n",
@@ -68,11 +68,28 @@ const SCRIPTS: [(&[u8], u8, &[u8]); 22] = [
     ),
     // A run of turns tells nothing of an empty queue.
     (b"later 1\nrun 5\nturn\n", 0, b"idle\nfree 1\n"),
-    // Limits are kept: 8 nodes and 1 name.
+    // Limits are kept: 2 arenas and 1 name.
     (
-        b"limits 8 1\nlater 1\nlater 2\ndetach 1\nlater 2\n",
+        b"limits 16 1\nlater 1\nlater 2\ndetach 1\nlater 2\n",
         0,
         b"refused 3 full\nfree 3\nfree 1\nfree 2\n",
+    ),
+    // A promise that goes before no other one takes an arena of eight slots for itself.
+    (
+        b"limits 8 4\nnow 3 0\nnow 4 0\n",
+        0,
+        b"refused 3 full\nfree 1\n",
+    ),
+    // Eight promises, each a continuation of the one before, are in one arena; a ninth takes another one.
+    (
+        b"limits 8 2\nnow 1 1\nthen 2 1 - -\nthen 1 2 - -\nthen 2 1 - -\nthen 1 2 - -\nthen 2 1 - -\nthen 1 2 - -\nthen 2 1 - -\nthen 1 2 - -\n",
+        0,
+        b"refused 10 full\nfree 1\nfree 2\nfree 3\nfree 4\nfree 5\nfree 6\nfree 7\nfree 8\n",
+    ),
+    (
+        b"limits 16 2\nnow 1 1\nthen 2 1 - -\nthen 1 2 - -\nthen 2 1 - -\nthen 1 2 - -\nthen 2 1 - -\nthen 1 2 - -\nthen 2 1 - -\nthen 1 2 - -\n",
+        0,
+        b"free 1\nfree 2\nfree 3\nfree 4\nfree 5\nfree 6\nfree 7\nfree 8\nfree 9\n",
     ),
     // A hub with two branches, of which the first was made first.
     (
@@ -147,7 +164,7 @@ pub fn log_of<R: Abort + Wait + Threads + Sync>(
     Ok(ended)
 }
 
-// The 4,097th name is refused, and none before; likewise the 65,537th node.
+// The 4,097th name is refused, and none before; likewise the 65,537th node where each eight of them are one path.
 #[test]
 fn full(rt: HostRuntime) -> Result<(), Fail> {
     let alloc = rt.alloc();
@@ -158,14 +175,15 @@ fn full(rt: HostRuntime) -> Result<(), Fail> {
     let log = log_of(&rt, alloc, names.as_slice())?;
     let front = b"refused 4097 full\nfree 1\nfree 2\n".as_slice();
     assert!(&rt; log.written.as_slice().starts_with(front));
-    // Each of these makes two nodes: the leaf and the task over it.
+    // Each of these fills an arena: the leaf, six continuations and the task over them.
     let mut nodes = Bytes::new(alloc);
-    for _ in 0..32_768 {
-        nodes.extend(b"later 1\ndetach 1\n")?;
+    for _ in 0..8_192 {
+        nodes.extend(b"later 1\nthen 2 1 - -\nthen 1 2 - -\nthen 2 1 - -\n")?;
+        nodes.extend(b"then 1 2 - -\nthen 2 1 - -\nthen 1 2 - -\ndetach 1\n")?;
     }
     nodes.extend(b"later 1\nlater 2\n")?;
     let log = log_of(&rt, alloc, nodes.as_slice())?;
-    let front = b"refused 65537 full\nrefused 65538 full\nfree 65535\nfree 65536\nfree 65533\n";
+    let front = b"refused 65537 full\nrefused 65538 full\nfree 65529\nfree 65530\nfree 65531\n";
     assert!(&rt; log.written.as_slice().starts_with(front.as_slice()));
     Ok(())
 }

@@ -1,55 +1,17 @@
--- From the first line to the last.
-use Rattle.std.proofs.Common.{rules, ◌≡◌, ◌∙◌, [], ◌∷◌, List, Option, map, sym, ap, subst}
+-- The loop is new, by the script's limits or the usual ones.
+use Rattle.std.proofs.Common.{◌∙◌, ap, subst}
 use Rattle.kj_base.specs.declared.numbers.Limits.{Limits}
-use Rattle.kj_model.specs.Log.{Body, Logged, limits_or, log_closed, log_lines, new_log, setting_of}
-use Rattle.kj_model.specs.Places.{table_fits}
-use Rattle.kj_model.specs.Text.{log_text}
-use Rattle.kj_model.specs.World.{State, new_state}
+use Rattle.kj_model.specs.Log.{limits_or}
+use Rattle.kj_model.specs.World.{new_state}
 use Rattle.loop_core.specs.Loops.{StandsAt}
 use Rattle.name_table.specs.Table.{Stands as NamesStand}
-use Rattle.node_table.specs.NodeTable.{node_of, Stands as TableStands}
-use Rattle.promise_commands.specs.Scripts.{body_of, numbered_of}
-use Rattle.promise_commands.specs.declared.script.NumberedLine.{NumberedLine}
+use Rattle.node_arena.specs.Arenas.{node_of, Stands as ArenasStand}
+use Rattle.node_arena.specs.Needs.{places_fit}
 use Rattle.promise_graph.specs.Standing.{StandsFor}
-use Rattle.promise_script.specs.Left.{with_found}
 use Rattle.kj_script.proofs.run.run_script.Goals as goal
 
-pub loop-text-init : goal.loop-text-init
-loop-text-init c =
-    let bodies : List Body = map body_of c.args.script.now.bodies in
-    let setting = setting_of table_fits bodies in
-    let first : Logged = new_log (limits_or c.args.script.now.limits) in
+pub run_on-requires : goal.run_on-requires
+run_on-requires c =
     let over = c.in_ok-over.over in
-    let Stands : State → Type 0 = StandsAt table_fits (StandsFor (node_of over.nodes.store) over.nodes.queue.events (TableStands over.nodes.store) over.nodes.marks) (NamesStand over.names) in (
-      first,
-      record {
-        stands = subst (λ (l : Limits). Stands (new_state l)) (c.limits_of.ensures.limits ∙ ap limits_or c.limits.ensures) c.in_ok-over.ensures;
-        follows = c.in_ok-steps.ensures;
-        printed = c.new-text.ensures;
-      },
-      ap (λ (xs : List NumberedLine). log_lines setting (map numbered_of xs) first) (sym c.lines-left.ensures),
-    )
-
-pub loop-text-preserved : goal.loop-text-preserved
-loop-text-preserved c =
-    let bodies : List Body = map body_of c.args.script.now.bodies in
-    let setting = setting_of table_fits bodies in
-    let before = c.loop-text.invariant in
-    let now : Logged = before.0 in
-    let left : c.loop-text.left ≡ c.in-Some.line ∷ c.next.new.self =
-    c.in_ok-line.ensures.next ∙ ap (λ (o : Option NumberedLine). with_found o c.next.new.self) c.in-Some.is in (
-      _,
-      c.in_ok-do_line.ensures bodies now before.1,
-      before.2 ∙ ap (λ (xs : List NumberedLine). log_lines setting (map numbered_of xs) now) left,
-    )
-
-pub returns : goal.returns
-returns c =
-    let bodies : List Body = map body_of c.args.script.now.bodies in
-    let setting = setting_of table_fits bodies in
-    let first : Logged = new_log (limits_or c.args.script.now.limits) in
-    let before = c.loop-text.invariant in
-    let now : Logged = before.0 in
-    let none : c.loop-text.left ≡ [] = search rules in
-    let all : log_lines setting (map numbered_of c.args.script.now.lines) first ≡ now = before.2 ∙ ap (λ (xs : List NumberedLine). log_lines setting (map numbered_of xs) now) none in
-    c.in_ok-close.ensures bodies now before.1 ∙ ap (λ (l : Logged). log_text (log_closed l)) (sym all)
+    subst (λ (l : Limits). StandsAt places_fit (StandsFor (node_of over.nodes.store) over.nodes.queue.events (ArenasStand over.nodes.store) over.nodes.marks) (NamesStand over.names) (new_state l))
+    (c.limits_of.ensures.limits ∙ ap limits_or c.limits.ensures) c.in_ok-over.ensures

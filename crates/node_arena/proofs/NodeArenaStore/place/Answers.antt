@@ -1,4 +1,4 @@
-use Rattle.std.proofs.Common.{◌∙◌, arith, ap, sym, subst, IsTrue, ◌∷◌}
+use Rattle.std.proofs.Common.{◌∙◌, ◌+◌, refl, arith, ap, sym, subst, IsTrue, ◌∷◌}
 use Rattle.kj_base.specs.Places.{row}
 use Rattle.kj_base.specs.Store.{slot_number, IsBareOrNone}
 use Rattle.node_arena.specs.Arenas.{Arenas, view_of, IsChosen, bare_at, node_of, has_room}
@@ -7,7 +7,7 @@ use Rattle.node_arena.proofs.Kept.{IsPut, kept_put, is_placed, was_free, slot_be
 use Rattle.node_arena.proofs.Freed.{no_node}
 use Rattle.node_arena.proofs.NodeArenaStore.place.Goals as goal
 
-put_is : (c : goal.After-put) → IsPut c.self.inside (record { cells = c.put.new.cells.items; free = c.choose-slot.new.free.items }) (slot_number c.args.before) c.choose-slot.result c.args.node
+put_is : (c : goal.After-put) → IsPut c.self.inside (record { cells = c.put.new.cells.items; free = c.choose-slot.new.free.items; live = c.self.inside.live + 1 }) (slot_number c.args.before) c.choose-slot.result c.args.node
 put_is c = record {
   written = record {
     cell = c.put.ensures.cell;
@@ -15,6 +15,7 @@ put_is c = record {
     size = c.put.ensures.size ∙ c.cover_before.ensures.size;
   };
   chosen = subst (λ b. IsChosen b c.self.inside.free.items c.choose-slot.new.free.items c.choose-slot.result) c.slot_below.ensures c.choose-slot.ensures.chosen;
+  live = refl;
   bare = subst (λ (t : Arenas). IsBareOrNone (bare_at t.cells) (slot_number c.args.before)) (sym c.self.view_is) c.requires.bare;
 }
 

@@ -1,4 +1,4 @@
-use Rattle.std.proofs.Common.{◌≡◌, ◌∙◌, ap, sym, subst, Option, None, IsSome}
+use Rattle.std.proofs.Common.{◌∙◌, ap, sym, subst, Option, IsSome}
 use Rattle.std.proofs.lemmas.Bool.{false≢true}
 use Rattle.kj_base.specs.declared.nodes.Node.{Node}
 use Rattle.node_arena.specs.Arenas.{node_of}
