@@ -2,9 +2,8 @@
 ghost use Rattle.std.specs.Prelude.{◌≤◌};
 
 use crate::Graph;
-use crate::visits::{forget, mark_at, new_visits, note};
 use event_list::EventList;
-use kj_base::{Form, Limits, MAX_SLOTS, NoMemory, NodeId, Outcome, Slot, Words};
+use kj_base::{Form, Limits, MAX_SLOTS, NoMemory, NodeId, Outcome, Words};
 use node_table::NodeTable;
 use promise_nodes::{Mark, NodeRow, Nodes, Way};
 use std::alloc::Global;
@@ -129,23 +128,5 @@ fn marks_nodes(rt: HostRuntime) -> Result<(), Fail> {
     assert!(rt; graph.mark_of(first) == Mark::Gone);
     assert!(rt; graph.mark_of(second) == Mark::Unmarked);
     assert!(rt; graph.form(first).is_some());
-    Ok(())
-}
-
-// Where the epochs come to their end, no mark of an earlier one counts again.
-#[test]
-fn epochs_begin_anew(rt: HostRuntime) -> Result<(), Fail> {
-    let mut visits = new_visits(rt.alloc(), 2)?;
-    forget(&mut visits, 2);
-    note(&mut visits, 2, Slot(0), Mark::Left);
-    visits.epoch = u32::MAX;
-    note(&mut visits, 2, Slot(1), Mark::Gone);
-    assert!(rt; mark_at(&visits, Some(Slot(0))) == Mark::Unmarked);
-    assert!(rt; mark_at(&visits, Some(Slot(1))) == Mark::Gone);
-    forget(&mut visits, 2);
-    assert!(rt; mark_at(&visits, Some(Slot(1))) == Mark::Unmarked);
-    forget(&mut visits, 2);
-    assert!(rt; mark_at(&visits, Some(Slot(0))) == Mark::Unmarked);
-    assert!(rt; mark_at(&visits, Some(Slot(1))) == Mark::Unmarked);
     Ok(())
 }
