@@ -22,7 +22,7 @@ use Rattle.http_core.proofs.ServeLemmas.{along_more}
 use Rattle.http_core.proofs.ConnectionLemmas.{awaits_fault, reading_awaits, idle_clean, busy_some}
 use Rattle.http_stream.specs.declared.stage.Stage.{Stage}
 use Rattle.http_stream.specs.declared.stage.Stage.TheVariants.{Open, Reading, Asked, Settled, Ended, Drained, Broken}
-use Rattle.http_stream.specs.Stages.{behind, Made, read_stage, is_drained}
+use Rattle.http_stream.specs.Stages.{behind, Made, read_stage, is_drained, unlooked}
 use Rattle.http_stream.specs.Standing.{HasPassed, StandsSo, IsBetween, IsAtEnd}
 use Rattle.http_stream.proofs.OctetLemmas.{piece_behind, nothing_behind, passed_on, passed_as, passed_read, end_read}
 
@@ -230,3 +230,8 @@ stands_new told stream faults request octets line made octets_none line_none mad
   passed = passed_new stream octets made octets_none fresh;
   fault = λ is. absurd (cc (is));
 }
+
+pub read_looked : (read : RequestRead) (stage : Stage) → stage ≡ read_stage read → unlooked false stage ≡ None
+read_looked (More part) stage is = ap (unlooked false) is
+read_looked (Whole request left) stage is = ap (unlooked false) is
+read_looked (Fault code) stage is = ap (unlooked false) is

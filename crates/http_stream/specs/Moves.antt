@@ -1,5 +1,5 @@
 -- What the moves of a connection over a stream do.
-use Rattle.std.specs.Prelude.{◌≡◌, ℕ, Bool, true, false, ◌==◌, length, drop, Option, Result, Ok, Err}
+use Rattle.std.specs.Prelude.{◌≡◌, ℕ, Bool, true, false, ◌==◌, length, drop, Option, None, Result, Ok, Err}
 use Rattle.http_heads.specs.Framing.{persists}
 use Rattle.kj_base.specs.declared.memory.NoMemory.{NoMemory}
 use Rattle.kj_io.specs.Streams.{StreamOctets, ReadsBehind, HasReadCause, Writes, HasWriteCause}
@@ -15,7 +15,7 @@ use Rattle.http_stream.specs.declared.next.ConnectionStep.TheVariants as steps
 use Rattle.http_stream.specs.declared.next.Next.{Next}
 use Rattle.http_stream.specs.declared.next.Next.TheVariants as next
 use Rattle.http_stream.specs.declared.connection.StreamConnection.{StreamConnection}
-use Rattle.http_stream.specs.Stages.{drained_stage, answered_stage, is_drained}
+use Rattle.http_stream.specs.Stages.{drained_stage, answered_stage, is_drained, unlooked}
 
 -- texts that weren't written go first
 abbrev pub write_or : Bool → Wants → Wants
@@ -79,6 +79,7 @@ pub record Looked {C : Type 0} (old new : StreamConnection C) : Type 0 where
   pub answered : new.answered ≡ old.answered
   pub abandoned : new.abandoned ≡ old.abandoned
   pub drained : is_drained new.stage ≡ false
+  pub looked : unlooked false new.stage ≡ None
 
 -- the stream was read once, and answered so
 pub record ReadOnce {C : Type 0} (told : C → Option StreamOctets) (faults pauses : C → ℕ) (answer : Got) (old new : StreamConnection C) : Type 0 where

@@ -1,5 +1,5 @@
 -- What the octets written are, where a connection over a stream has ended.
-use Rattle.std.specs.Prelude.{◌≡◌, ℕ, ◌<◌, Bool, true, false, ◌⊎◌, List, ◌∷◌, ◌++◌, length, Option, IfSome}
+use Rattle.std.specs.Prelude.{◌≡◌, ℕ, ◌<◌, Bool, true, false, ◌⊎◌, List, ◌∷◌, ◌++◌, length, take, Option, IfSome}
 use Rattle.http_core.specs.declared.message.Request.{Request}
 use Rattle.http_core.specs.declared.message.Answer.{Answer}
 use Rattle.http_core.specs.declared.message.End.{End}
@@ -8,7 +8,8 @@ use Rattle.http_core.specs.Requests.{Along, Requests, replies, end_text}
 use Rattle.http_core.specs.Replies.{IsReplies}
 use Rattle.kj_io.specs.Streams.{StreamOctets}
 use Rattle.http_stream.specs.declared.served.Finished.{Finished}
-use Rattle.http_stream.specs.Stages.{DrainedTexts}
+use Rattle.http_stream.specs.declared.connection.StreamConnection.{StreamConnection}
+use Rattle.http_stream.specs.Stages.{DrainedTexts, is_drained, is_closing}
 
 -- No drain came: the octets written are the replies to the octets read, and to all that the stream gave and still has.
 pub record WithoutDrain (f : Request → Answer) (stream : Option StreamOctets) (read written : List ℕ) (answered : ℕ) : Type 0 where
@@ -56,3 +57,13 @@ pub record KeepsPromise {C : Type 0} (stream_told : C → Option StreamOctets) (
   pub texts : IfSome told (λ f. EndsSo s.abandoned s.drained s.closes f (stream_told s.stream) s.read s.written s.answered)
   pub passed : IfSome (stream_told s.stream) (IsPassed s.read s.written)
   pub fault : s.abandoned ≡ true → 0 < stream_faults s.stream
+
+-- what a connection was when it ended
+pub record EndsAs {C : Type 0} (c : StreamConnection C) (s : Finished C) : Type 0 where
+  pub stream : s.stream ≡ c.stream
+  pub read : s.read ≡ c.octets
+  pub written : s.written ≡ take c.sent c.made
+  pub answered : s.answered ≡ c.answered
+  pub abandoned : s.abandoned ≡ c.abandoned
+  pub drained : s.drained ≡ is_drained c.stage
+  pub closes : s.closes ≡ is_closing c.stage

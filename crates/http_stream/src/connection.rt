@@ -60,7 +60,7 @@ impl<C: Stream> StreamConnection<C> {
     ghost use Rattle.http_stream.specs.Standing.{Stands, StandsBetween, ReadsAt, IsAtEnd};
     ghost use Rattle.http_stream.specs.Moves.{wants_of, drained_of, ReadOnce, AnsweredOnce, WroteOnce};
     ghost use Rattle.http_stream.specs.Steps.{IsOver, LooksAt, ReadMove, AnswerMove, WriteMove};
-    ghost use Rattle.http_stream.specs.Served.{KeepsPromise};
+    ghost use Rattle.http_stream.specs.Served.{KeepsPromise, EndsAs};
 
     /// A connection over a stream that gave and took nothing yet. Takes no memory.
     pub fn new(alloc: Global, stream: C) -> StreamConnection<C>
@@ -341,7 +341,7 @@ impl<C: Stream> StreamConnection<C> {
     /// What a connection was that has ended. Takes no memory.
     pub fn finish(self) -> Finished<C>
         requires { IsOver (wants_of self) }
-        ensures stream { result.stream ≡ self.stream }
+        ensures ends { EndsAs self result }
         ensures keeps { (told : Option (Request → Answer)) → Stands C.told C.faults told self
             → KeepsPromise C.told C.faults told result }
     {

@@ -30,7 +30,9 @@ impl<V: Service, C: Stream> Model for ServedConnection<V, C> {
 
 impl<V: Service, C: Stream> ServedConnection<V, C> {
     ghost use Rattle.std.specs.Prelude.{◌≡◌, false, IfSome, IfOk, [], IsTrue};
+    ghost use Rattle.http_stream.specs.declared.stage.Stage.TheVariants as stages;
     ghost use Rattle.http_stream.specs.Moves.{wants_of};
+    ghost use Rattle.http_stream.specs.Served.{EndsAs};
     ghost use Rattle.http_stream.specs.Steps.{ReadStep, AnswerStep, WriteStep, IsOver};
 
     /// A connection over a stream that gave and took nothing yet; its first step reads. Takes no
@@ -38,6 +40,8 @@ impl<V: Service, C: Stream> ServedConnection<V, C> {
     pub fn new(alloc: Global, stream: C) -> ServedConnection<V, C>
         requires fresh { IfSome (C.told stream) (λ o. (o.given ≡ []) × (o.written ≡ [])) }
         ensures stream { result.connection.stream ≡ stream }
+        ensures stage { result.connection.stage ≡ stages.Reading }
+        ensures abandoned { result.connection.abandoned ≡ false }
         ensures waits { result.waits ≡ false }
     {
         ServedConnection {
@@ -114,7 +118,7 @@ impl<V: Service, C: Stream> ServedConnection<V, C> {
     pub fn finish(self, index: u32) -> Served<V, C>
         requires { IsOver (wants_of self.connection) }
         ensures index { result.index ≡ index }
-        ensures stream { result.finished.stream ≡ self.connection.stream }
+        ensures ends { EndsAs self.connection result.finished }
     {
         Served::new(index, self.connection.finish())
     }

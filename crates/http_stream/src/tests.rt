@@ -48,7 +48,7 @@ struct Driven {
 }
 
 // Takes the steps of a connection until it ends; a step that waits is taken again at once.
-fn drive<V: Service + Drop>(
+fn run_steps<V: Service + Drop>(
     alloc: Global,
     service: &mut V,
     octets: &[u8],
@@ -127,7 +127,7 @@ fn pipelined_requests_go_out_in_one_write(rt: HostRuntime) -> Result<(), Fail> {
     let mut turns = Drive::plain(alloc);
     turns.writes.push(StreamTurn::Fault)?;
     turns.writes.push(StreamTurn::Octets(1_000))?;
-    let driven = drive(alloc, &mut Target, THREE, turns)?;
+    let driven = run_steps(alloc, &mut Target, THREE, turns)?;
     assert!(&rt; ends_so(&driven, WHOLE));
     assert_eq!(&rt; driven.answers, 3);
     Ok(())
@@ -143,7 +143,7 @@ fn gaps_at_each_octet(rt: HostRuntime) -> Result<(), Fail> {
         turns.writes.push(StreamTurn::Octets(1))?;
         turns.writes.push(StreamTurn::Gap)?;
     }
-    let driven = drive(alloc, &mut Target, THREE, turns)?;
+    let driven = run_steps(alloc, &mut Target, THREE, turns)?;
     assert!(&rt; ends_so(&driven, WHOLE));
     Ok(())
 }
@@ -161,7 +161,7 @@ fn drains(rt: HostRuntime) -> Result<(), Fail> {
         drained: true,
         closes: true,
     };
-    assert!(&rt; ends_so(&drive(alloc, &mut Target, THREE, turns)?, wanted));
+    assert!(&rt; ends_so(&run_steps(alloc, &mut Target, THREE, turns)?, wanted));
 
     // Read, answer, write, a read that waits, and the drain before the next.
     let mut turns = Drive::plain(alloc);
@@ -175,7 +175,7 @@ fn drains(rt: HostRuntime) -> Result<(), Fail> {
         drained: true,
         closes: false,
     };
-    assert!(&rt; ends_so(&drive(alloc, &mut Target, THREE, turns)?, wanted));
+    assert!(&rt; ends_so(&run_steps(alloc, &mut Target, THREE, turns)?, wanted));
 
     // Before the first step.
     let mut turns = Drive::plain(alloc);
@@ -187,7 +187,7 @@ fn drains(rt: HostRuntime) -> Result<(), Fail> {
         drained: true,
         closes: false,
     };
-    assert!(&rt; ends_so(&drive(alloc, &mut Target, THREE, turns)?, wanted));
+    assert!(&rt; ends_so(&run_steps(alloc, &mut Target, THREE, turns)?, wanted));
     Ok(())
 }
 
@@ -220,10 +220,10 @@ fn each_call_fails_in_turn(rt: HostRuntime) -> Result<(), Fail> {
     for count in 0..125 {
         let mut turns = Drive::plain(alloc);
         turns.reads = fault_after(alloc, count)?;
-        assert!(&rt; keeps_front(&drive(alloc, &mut Target, THREE, turns)?));
+        assert!(&rt; keeps_front(&run_steps(alloc, &mut Target, THREE, turns)?));
         let mut turns = Drive::plain(alloc);
         turns.writes = fault_after(alloc, count)?;
-        assert!(&rt; keeps_front(&drive(alloc, &mut Target, THREE, turns)?));
+        assert!(&rt; keeps_front(&run_steps(alloc, &mut Target, THREE, turns)?));
     }
     Ok(())
 }
@@ -248,7 +248,7 @@ fn faults_have_their_texts(rt: HostRuntime) -> Result<(), Fail> {
         };
         assert!(&rt;
             ends_so(
-                &drive(alloc, &mut Echo, octets, Drive::plain(alloc))?,
+                &run_steps(alloc, &mut Echo, octets, Drive::plain(alloc))?,
                 wanted
             )
         );
@@ -276,7 +276,7 @@ impl Service for Counting {
 fn the_service_is_asked_once_a_request(rt: HostRuntime) -> Result<(), Fail> {
     let alloc = rt.alloc();
     let mut counting = Counting(0);
-    let driven = drive(alloc, &mut counting, THREE, Drive::plain(alloc))?;
+    let driven = run_steps(alloc, &mut counting, THREE, Drive::plain(alloc))?;
     assert_eq!(&rt; counting.0, 3);
     match driven.finished {
         None => assert!(&rt; false),
