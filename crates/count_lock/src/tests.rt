@@ -33,7 +33,12 @@ impl Kept for Marks {
     // No mark ends a word.
     ghost fin = { λ c es k. None };
 
-    ghost fin_laws = { record { stays = λ c es more k p h. h; within = λ c es k p h. Prim.search rules; fresh = λ c es e k p h. inl h } };
+    ghost fin_laws = { record {
+      stays = λ c es more k p h. h;
+      within = λ c es k p h. Prim.search
+          rules;
+      fresh = λ c es e k p h. inl h;
+    } };
 
     fn constant(&self) -> u64 {
         7

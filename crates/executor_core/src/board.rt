@@ -37,7 +37,8 @@ impl Model for Board {
 
     ghost view = { λ b. desk b.limit b.closed b.requests.items };
 
-    ghost invariant = { λ b. (length b.requests.items ≤ b.limit) × (b.limit ≤ vec_capacity b.requests) × Linked b.limit b.requests.items b.waiting b.asked };
+    ghost invariant = { λ b. (length b.requests.items ≤ b.limit) ×
+        (b.limit ≤ vec_capacity b.requests) × Linked b.limit b.requests.items b.waiting b.asked };
 }
 
 impl Board {

@@ -34,7 +34,8 @@ impl Model for Log {
 
     ghost view = { λ l. logged (entries_of l.words.items l.lines.items) (vec_capacity l.lines) };
 
-    ghost invariant = { λ l. Fitting l.words.items (vec_capacity l.words) l.lines.items (vec_capacity l.lines) };
+    ghost invariant = { λ l. Fitting l.words.items (vec_capacity l.words) l.lines.items
+        (vec_capacity l.lines) };
 }
 
 impl Log {

@@ -27,7 +27,14 @@ impl Model for Chunks {
 
     ghost Value = { Progress };
 
-    ghost view = { λ c. record { body = c.reader.body; pending = c.reader.pending; stage = c.reader.stage; trailer = c.trailer; phase = c.phase } };
+    ghost view = { λ c. record {
+      body = c.reader.body;
+      pending = c.reader.pending;
+      stage =
+          c.reader.stage;
+      trailer = c.trailer;
+      phase = c.phase;
+    } };
 
     ghost invariant = { λ c. c.phase ≡ Going → IsSoundReader c.reader };
 }

@@ -56,11 +56,19 @@ fn ends_lines(bytes: &[u8], k: usize) -> bool
 
 /// Whether an octet from the given one on ends an empty line, as the last of a section does.
 pub fn brings_section(bytes: &[u8], from: usize) -> bool
-    ensures some { result ≡ true → (k : ℕ) × (from ≤ k) × (k < length bytes.now) × (ends_empty_line bytes.now k ≡ true) }
-    ensures none { result ≡ false → (k : ℕ) → from ≤ k → k < length bytes.now → ends_empty_line bytes.now k ≡ false }
+    ensures some { result ≡ true
+        → (k : ℕ) × (from ≤ k) × (k < length bytes.now) × (ends_empty_line bytes.now k ≡ true) }
+    ensures none { result ≡ false
+        → (k : ℕ)
+        → from ≤ k
+        → k < length bytes.now
+        → ends_empty_line bytes.now k ≡ false }
 
     // Where none does, a section that stands at the front ended before.
-    ensures later { result ≡ false → (fields : List Field) (len : ℕ) (rest : List ℕ) → StartsWithSection bytes.now fields len rest → len ≤ from }
+    ensures later { result ≡ false
+        → (fields : List Field) (len : ℕ) (rest : List ℕ)
+        → StartsWithSection bytes.now fields len rest
+        → len ≤ from }
 {
     for k in from..bytes.len() {
         if ends_empty_line(bytes, k) {
@@ -73,11 +81,19 @@ pub fn brings_section(bytes: &[u8], from: usize) -> bool
 /// Whether an octet from the given one on ends an empty line behind a line that has octets, as the
 /// last of a head does.
 pub fn brings_head(bytes: &[u8], from: usize) -> bool
-    ensures some { result ≡ true → (k : ℕ) × (from ≤ k) × (k < length bytes.now) × (ends_lines bytes.now k ≡ true) }
-    ensures none { result ≡ false → (k : ℕ) → from ≤ k → k < length bytes.now → ends_lines bytes.now k ≡ false }
+    ensures some { result ≡ true
+        → (k : ℕ) × (from ≤ k) × (k < length bytes.now) × (ends_lines bytes.now k ≡ true) }
+    ensures none { result ≡ false
+        → (k : ℕ)
+        → from ≤ k
+        → k < length bytes.now
+        → ends_lines bytes.now k ≡ false }
 
     // Where none does, a head that stands at the front ended before.
-    ensures later { result ≡ false → (head : Head) (len : ℕ) → StartsWithHead bytes.now head len → len ≤ from }
+    ensures later { result ≡ false
+        → (head : Head) (len : ℕ)
+        → StartsWithHead bytes.now head len
+        → len ≤ from }
 {
     for k in from..bytes.len() {
         if ends_lines(bytes, k) {
@@ -110,9 +126,12 @@ fn stops_line(bytes: &[u8], k: usize) -> bool
 /// Where, from the given octet on, the first line of a head that has octets ends, or first has a
 /// control octet, which can be in none.
 pub fn first_stop(bytes: &[u8], from: usize) -> Option<usize>
-    ensures stops { IfSome result (λ k. (from ≤ k) × (k < length bytes.now) × (stops_line bytes.now k ≡ true)) }
-    ensures first { IfSome result (λ k. (j : ℕ) → from ≤ j → j < k → stops_line bytes.now j ≡ false) }
-    ensures none { IfNone result ((k : ℕ) → from ≤ k → k < length bytes.now → stops_line bytes.now k ≡ false) }
+    ensures stops { IfSome result
+        (λ k. (from ≤ k) × (k < length bytes.now) × (stops_line bytes.now k ≡ true)) }
+    ensures first { IfSome result
+        (λ k. (j : ℕ) → from ≤ j → j < k → stops_line bytes.now j ≡ false) }
+    ensures none { IfNone result
+        ((k : ℕ) → from ≤ k → k < length bytes.now → stops_line bytes.now k ≡ false) }
 {
     for k in from..bytes.len() {
         if stops_line(bytes, k) {
@@ -124,10 +143,14 @@ pub fn first_stop(bytes: &[u8], from: usize) -> Option<usize>
 
 /// More octets change no stop.
 pub fn stop_stays()
-    ensures { (bytes more : List ℕ) (k : ℕ) → k < length bytes → stops_line (bytes ++ more) k ≡ stops_line bytes k }
+    ensures { (bytes more : List ℕ) (k : ℕ)
+        → k < length bytes
+        → stops_line (bytes ++ more) k ≡ stops_line bytes k }
 {}
 
 /// The first line of a head stops.
 pub fn head_has_stop()
-    ensures { (bytes : List ℕ) (head : Head) (len : ℕ) → StartsWithHead bytes head len → (k : ℕ) × (k < len) × (stops_line bytes k ≡ true) }
+    ensures { (bytes : List ℕ) (head : Head) (len : ℕ)
+        → StartsWithHead bytes head len
+        → (k : ℕ) × (k < len) × (stops_line bytes k ≡ true) }
 {}

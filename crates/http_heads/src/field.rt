@@ -136,7 +136,8 @@ impl Fields {
         name: &[u8],
         value: &[u8],
     ) -> Result<(), NoMemory>
-        ensures ok { OnOk result (self.new ≡ self.old ++ record { name = name.now; value = value.now } ∷ []) }
+        ensures ok { OnOk result
+            (self.new ≡ self.old ++ record { name = name.now; value = value.now } ∷ []) }
         ensures err { OnErr result (self.new ≡ self.old) }
     {
         if self.count == self.items.len() {

@@ -24,7 +24,9 @@ pub fn is_named(name: &[u8], field: &Field) -> bool
 
 // The first piece of a value, and what is left after its comma.
 fn cut(value: &[u8]) -> (&[u8], Option<&[u8]>)
-    ensures elements { elements value.now ≡ (if is_blank result.0.now then elements_of_rest result.1 else result.0.now ∷ elements_of_rest result.1) }
+    ensures elements { elements value.now
+        ≡ (if is_blank result.0.now then elements_of_rest result.1 else result.0.now ∷
+        elements_of_rest result.1) }
     ensures shorter { left_of result.1 ≤ length value.now }
 {
     match value.iter().position(|b| *b == b',') {
@@ -35,7 +37,8 @@ fn cut(value: &[u8]) -> (&[u8], Option<&[u8]>)
 
 // The next element of what is left of a value, and what is left then.
 fn next_element(rest: Option<&[u8]>) -> Option<(&[u8], Option<&[u8]>)>
-    ensures { MatchOption result (elements_of_rest rest.entry ≡ []) (λ r. elements_of_rest rest.entry ≡ r.0.now ∷ elements_of_rest r.1) }
+    ensures { MatchOption result (elements_of_rest rest.entry ≡ [])
+        (λ r. elements_of_rest rest.entry ≡ r.0.now ∷ elements_of_rest r.1) }
 {
     let mut rest = rest;
     while let Some(value) = rest {

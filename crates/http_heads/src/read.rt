@@ -25,7 +25,9 @@ fn fill_parts(
     found: &RequestSpans,
 ) -> Result<(), NoMemory>
     requires { IsRequestWithin bytes.now spans.now found.now }
-    ensures { OnOk result ((tree : RequestHead) → IsRequestAt bytes.now spans.now found.now tree → head.new ≡ head_of tree) }
+    ensures { OnOk result ((tree : RequestHead)
+        → IsRequestAt bytes.now spans.now found.now tree
+        → head.new ≡ head_of tree) }
 {
     refill(&mut head.method, found.method.of(bytes))?;
     refill(&mut head.target, found.path.of(bytes))?;
@@ -106,10 +108,15 @@ pub fn fill_head(alloc: Global, head: &mut Head, bytes: &[u8]) -> Result<HeadFil
 
 /// Octets begin with at most one head, whatever follows it.
 pub fn one_head()
-    ensures { (bytes more : List ℕ) (a b : Head) (m n : ℕ) → StartsWithHead bytes a m → StartsWithHead (bytes ++ more) b n → (a ≡ b) × (m ≡ n) }
+    ensures { (bytes more : List ℕ) (a b : Head) (m n : ℕ)
+        → StartsWithHead bytes a m
+        → StartsWithHead (bytes ++ more) b n
+        → (a ≡ b) × (m ≡ n) }
 {}
 
 /// A head stays one, whatever follows it.
 pub fn head_stays()
-    ensures { (bytes more : List ℕ) (head : Head) (len : ℕ) → StartsWithHead bytes head len → StartsWithHead (bytes ++ more) head len }
+    ensures { (bytes more : List ℕ) (head : Head) (len : ℕ)
+        → StartsWithHead bytes head len
+        → StartsWithHead (bytes ++ more) head len }
 {}

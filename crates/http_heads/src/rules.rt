@@ -28,7 +28,8 @@ pub fn count_fields(name: &[u8], fields: &[Field]) -> usize
 
 // Whether an option stands in the Connection list.
 fn has_option(option: &[u8], fields: &[Field]) -> bool
-    ensures { result ≡ list_any (λ e. is_same e option.now) (list_of (codes "connection") fields.now) }
+    ensures { result
+        ≡ list_any (λ e. is_same e option.now) (list_of (codes "connection") fields.now) }
 {
     let mut found = false;
     for element in Elements::new(b"connection", fields) {
@@ -111,7 +112,8 @@ fn value_of(digits: &[u8]) -> u64
 }
 
 fn parse_length(element: &[u8]) -> Option<u64>
-    ensures { result ≡ (if is_length element.now then Some (digits_value 10 element.now) else None) }
+    ensures { result
+        ≡ (if is_length element.now then Some (digits_value 10 element.now) else None) }
 {
     if element.is_empty() {
         return None;

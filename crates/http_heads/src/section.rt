@@ -21,7 +21,8 @@ pub(crate) fn fill_fields(
     count: usize,
 ) -> Result<(), NoMemory>
     requires { IsSectionWithin bytes.now spans.now (length bytes.now) count }
-    ensures { OnOk result (map name_and_value fields.new ≡ map (header_bytes bytes.now) (take count spans.now)) }
+    ensures { OnOk result
+        (map name_and_value fields.new ≡ map (header_bytes bytes.now) (take count spans.now)) }
 {
     fields.clear();
     fields.reserve(count)?;
@@ -72,10 +73,15 @@ pub fn read_section(alloc: Global, bytes: &[u8]) -> Result<SectionRead, NoMemory
 
 /// Octets begin with at most one section, whatever follows it.
 pub fn one_section()
-    ensures { (bytes more : List ℕ) (a b : List Field) (m n : ℕ) (rest other : List ℕ) → StartsWithSection bytes a m rest → StartsWithSection (bytes ++ more) b n other → (a ≡ b) × (m ≡ n) × (other ≡ rest ++ more) }
+    ensures { (bytes more : List ℕ) (a b : List Field) (m n : ℕ) (rest other : List ℕ)
+        → StartsWithSection bytes a m rest
+        → StartsWithSection (bytes ++ more) b n other
+        → (a ≡ b) × (m ≡ n) × (other ≡ rest ++ more) }
 {}
 
 /// A section stays one, whatever follows it.
 pub fn section_stays()
-    ensures { (bytes more : List ℕ) (fields : List Field) (len : ℕ) (rest : List ℕ) → StartsWithSection bytes fields len rest → StartsWithSection (bytes ++ more) fields len (rest ++ more) }
+    ensures { (bytes more : List ℕ) (fields : List Field) (len : ℕ) (rest : List ℕ)
+        → StartsWithSection bytes fields len rest
+        → StartsWithSection (bytes ++ more) fields len (rest ++ more) }
 {}

@@ -119,7 +119,10 @@ impl<St: Store + Drop, Q: Queue + Drop> LoopOver<Graph<St, Q>, NameTree> {
         requires no_nodes { (s : ℕ) → St.node_at store s ≡ None }
         requires no_events { Q.events queue ≡ no_events }
         requires no_spots { St.stands store [] }
-        ensures stands { IfOk result (λ l. TakesNoMore St.rule → StandsAt St.rule (StandsFor (St.node_at l.nodes.store) (Q.events l.nodes.queue) (St.stands l.nodes.store) l.nodes.marks) (NamesStand l.names) (new_state limits)) }
+        ensures stands { IfOk result (λ l. TakesNoMore St.rule → StandsAt St.rule
+            (StandsFor (St.node_at l.nodes.store) (Q.events l.nodes.queue)
+            (St.stands l.nodes.store) l.nodes.marks) (NamesStand l.names)
+            (new_state limits)) }
     {
         let graph = Graph::new(alloc, limits, store, queue)?;
         let names = NameTree::new(alloc, limits)?;

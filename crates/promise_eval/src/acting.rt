@@ -30,7 +30,10 @@ fn apply_all<N: Nodes, M: Names, S: Steps>(
     requires few { M.count names.old ≤ M.limit names.old }
     requires frames_room { N.slots nodes.old + 1 ≤ vec_capacity frames.old }
     requires room { N.slots nodes.old + 1 ≤ vec_capacity search.old }
-    ensures applied { Did (Both (N.stands nodes.old) (M.stands names.old)) (Both (N.stands nodes.new) (M.stands names.new)) N.rule (λ setting s. all_applied setting (commands_of commands.now) s) (λ setting s. (s, result)) (S.told steps.old) (S.told steps.new) }
+    ensures applied { Did (Both (N.stands nodes.old) (M.stands names.old))
+        (Both (N.stands nodes.new) (M.stands names.new)) N.rule
+        (λ setting s. all_applied setting (commands_of commands.now) s) (λ setting s. (s, result))
+        (S.told steps.old) (S.told steps.new) }
     ensures lacks { S.lacks steps.new ≡ S.lacks steps.old }
     ensures free { AreFree (M.roots names.new) (N.is_taken nodes.new) (N.next nodes.new) }
     ensures few { M.count names.new ≤ M.limit names.new }
@@ -63,9 +66,13 @@ fn act<N: Nodes, M: Names, S: Steps>(
     requires few { M.count names.old ≤ M.limit names.old }
     requires frames_room { N.slots nodes.old + 1 ≤ vec_capacity frames.old }
     requires room { N.slots nodes.old + 1 ≤ vec_capacity search.old }
-    ensures acted { Did (Both (N.stands nodes.old) (M.stands names.old)) (Both (N.stands nodes.new) (M.stands names.new)) N.rule (λ setting s. acted setting (action_of action) under_chain input s) (λ setting s. (s, given_of result)) (S.told steps.old) (S.told steps.new) }
+    ensures acted { Did (Both (N.stands nodes.old) (M.stands names.old))
+        (Both (N.stands nodes.new) (M.stands names.new)) N.rule
+        (λ setting s. acted setting (action_of action) under_chain input s)
+        (λ setting s. (s, given_of result)) (S.told steps.old) (S.told steps.new) }
     ensures lacks { S.lacks steps.new ≡ S.lacks steps.old }
-    ensures root { GivesRoot (M.roots names.new) (N.is_taken nodes.new) (N.next nodes.new) (Ok result) }
+    ensures root { GivesRoot (M.roots names.new) (N.is_taken nodes.new) (N.next nodes.new)
+        (Ok result) }
     ensures free { AreFree (M.roots names.new) (N.is_taken nodes.new) (N.next nodes.new) }
     ensures few { M.count names.new ≤ M.limit names.new }
     ensures slots { N.slots nodes.new ≡ N.slots nodes.old }
@@ -99,7 +106,10 @@ pub fn run_step<N: Nodes, M: Names, S: Steps>(
     requires few { M.count names.old ≤ M.limit names.old }
     requires frames_room { N.slots nodes.old + 1 ≤ vec_capacity frames.old }
     requires room { N.slots nodes.old + 1 ≤ vec_capacity search.old }
-    ensures gives { Gives (Both (N.stands nodes.old) (M.stands names.old)) (Both (N.stands nodes.new) (M.stands names.new)) N.rule (λ setting s. run_step setting under_chain node.number.0 step.0 input s) gave_given (S.told steps.old) (S.told steps.new) result }
+    ensures gives { Gives (Both (N.stands nodes.old) (M.stands names.old))
+        (Both (N.stands nodes.new) (M.stands names.new)) N.rule
+        (λ setting s. run_step setting under_chain node.number.0 step.0 input s) gave_given
+        (S.told steps.old) (S.told steps.new) result }
     ensures lacks { HasLacked (is_err result) (S.lacks steps.old) (S.lacks steps.new) }
     ensures root { GivesRoot (M.roots names.new) (N.is_taken nodes.new) (N.next nodes.new) result }
     ensures free { AreFree (M.roots names.new) (N.is_taken nodes.new) (N.next nodes.new) }

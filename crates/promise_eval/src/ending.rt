@@ -38,7 +38,9 @@ pub(crate) fn refused() -> Given
 // Whether the tree of a root holds the node whose event fires.
 fn holds_firing<N: Nodes>(nodes: &N, search: &mut Vec<Parts>, root: Link) -> bool
     requires room { N.slots nodes.now + 1 ≤ vec_capacity search.old }
-    ensures holds { (w : World) → N.stands nodes.now w → result ≡ holds_firing w.firing root.number.0 w }
+    ensures holds { (w : World)
+        → N.stands nodes.now w
+        → result ≡ holds_firing w.firing root.number.0 w }
     ensures room { vec_capacity search.old ≤ vec_capacity search.new }
 {
     match nodes.firing() {
@@ -57,8 +59,12 @@ fn take_promise<N: Nodes, M: Names>(
 ) -> Given
     requires free { AreFree (M.roots names.old) (N.is_taken nodes.now) (N.next nodes.now) }
     requires room { N.slots nodes.now + 1 ≤ vec_capacity search.old }
-    ensures taken { (s : State) → Both (N.stands nodes.now) (M.stands names.old) s.world → IsDone (Both (N.stands nodes.now) (M.stands names.new)) s.past (given_of result) (promise_taken name.0 (held_at name.0 s.world.names) s) }
-    ensures root { GivesRoot (M.roots names.new) (N.is_taken nodes.now) (N.next nodes.now) (Ok result) }
+    ensures taken { (s : State)
+        → Both (N.stands nodes.now) (M.stands names.old) s.world
+        → IsDone (Both (N.stands nodes.now) (M.stands names.new)) s.past (given_of result)
+        (promise_taken name.0 (held_at name.0 s.world.names) s) }
+    ensures root { GivesRoot (M.roots names.new) (N.is_taken nodes.now) (N.next nodes.now)
+        (Ok result) }
     ensures free { AreFree (M.roots names.new) (N.is_taken nodes.now) (N.next nodes.now) }
     ensures few { M.count names.new ≤ M.count names.old }
     ensures limit { M.limit names.new ≡ M.limit names.old }
@@ -85,8 +91,12 @@ fn end_promise<N: Nodes, M: Names>(
 ) -> Given
     requires free { AreFree (M.roots names.old) (N.is_taken nodes.now) (N.next nodes.now) }
     requires room { N.slots nodes.now + 1 ≤ vec_capacity search.old }
-    ensures ended { (s : State) → Both (N.stands nodes.now) (M.stands names.old) s.world → IsDone (Both (N.stands nodes.now) (M.stands names.new)) s.past (given_of result) (promise_ended under_chain name.0 s) }
-    ensures root { GivesRoot (M.roots names.new) (N.is_taken nodes.now) (N.next nodes.now) (Ok result) }
+    ensures ended { (s : State)
+        → Both (N.stands nodes.now) (M.stands names.old) s.world
+        → IsDone (Both (N.stands nodes.now) (M.stands names.new)) s.past (given_of result)
+        (promise_ended under_chain name.0 s) }
+    ensures root { GivesRoot (M.roots names.new) (N.is_taken nodes.now) (N.next nodes.now)
+        (Ok result) }
     ensures free { AreFree (M.roots names.new) (N.is_taken nodes.now) (N.next nodes.now) }
     ensures few { M.count names.new ≤ M.count names.old }
     ensures limit { M.limit names.new ≡ M.limit names.old }
@@ -110,8 +120,12 @@ pub(crate) fn end<N: Nodes, M: Names>(
 ) -> Given
     requires free { AreFree (M.roots names.old) (N.is_taken nodes.now) (N.next nodes.now) }
     requires room { N.slots nodes.now + 1 ≤ vec_capacity search.old }
-    ensures ended { (s : State) → Both (N.stands nodes.now) (M.stands names.old) s.world → IsDone (Both (N.stands nodes.now) (M.stands names.new)) s.past (given_of result) (ended ending under_chain input s) }
-    ensures root { GivesRoot (M.roots names.new) (N.is_taken nodes.now) (N.next nodes.now) (Ok result) }
+    ensures ended { (s : State)
+        → Both (N.stands nodes.now) (M.stands names.old) s.world
+        → IsDone (Both (N.stands nodes.now) (M.stands names.new)) s.past (given_of result)
+        (ended ending under_chain input s) }
+    ensures root { GivesRoot (M.roots names.new) (N.is_taken nodes.now) (N.next nodes.now)
+        (Ok result) }
     ensures free { AreFree (M.roots names.new) (N.is_taken nodes.now) (N.next nodes.now) }
     ensures few { M.count names.new ≤ M.count names.old }
     ensures limit { M.limit names.new ≡ M.limit names.old }

@@ -45,7 +45,10 @@ impl<N: Nodes + Drop, M: Names + Drop> Evaluator<N, M> {
 
     /// The outcome of a ready tree, with the steps that run for it; want of memory where a step found none.
     pub fn evaluate<S: Steps>(&mut self, root: Link, steps: &mut S) -> Result<Outcome, NoMemory>
-        ensures gives { Gives (Both (N.stands self.old.nodes) (M.stands self.old.names)) (Both (N.stands self.new.nodes) (M.stands self.new.names)) N.rule (λ setting s. value setting root.number.0 s) gave (S.told steps.old) (S.told steps.new) result }
+        ensures gives { Gives (Both (N.stands self.old.nodes) (M.stands self.old.names))
+            (Both (N.stands self.new.nodes) (M.stands self.new.names)) N.rule
+            (λ setting s. value setting root.number.0 s) gave (S.told steps.old)
+            (S.told steps.new) result }
         ensures lacks { HasLacked (is_err result) (S.lacks steps.old) (S.lacks steps.new) }
         ensures plain { OnlyRises (N.is_plain self.old.nodes) (N.is_plain self.new.nodes) }
         ensures slots { N.slots self.new.nodes ≡ N.slots self.old.nodes }
@@ -57,9 +60,13 @@ impl<N: Nodes + Drop, M: Names + Drop> Evaluator<N, M> {
     /// What the Then of a Chain gives, with the steps that run for it: an outcome, or the tree of a promise, which left
     /// its name and which nothing owns.
     pub fn evaluate_link<S: Steps>(&mut self, link: Link, steps: &mut S) -> Result<Given, NoMemory>
-        ensures gives { Gives (Both (N.stands self.old.nodes) (M.stands self.old.names)) (Both (N.stands self.new.nodes) (M.stands self.new.names)) N.rule (λ setting s. value_link setting link.number.0 s) gave_given (S.told steps.old) (S.told steps.new) result }
+        ensures gives { Gives (Both (N.stands self.old.nodes) (M.stands self.old.names))
+            (Both (N.stands self.new.nodes) (M.stands self.new.names)) N.rule
+            (λ setting s. value_link setting link.number.0 s) gave_given (S.told steps.old)
+            (S.told steps.new) result }
         ensures lacks { HasLacked (is_err result) (S.lacks steps.old) (S.lacks steps.new) }
-        ensures root { GivesRoot (M.roots self.new.names) (N.is_taken self.new.nodes) (N.next self.new.nodes) result }
+        ensures root { GivesRoot (M.roots self.new.names) (N.is_taken self.new.nodes)
+            (N.next self.new.nodes) result }
         ensures plain { OnlyRises (N.is_plain self.old.nodes) (N.is_plain self.new.nodes) }
         ensures slots { N.slots self.new.nodes ≡ N.slots self.old.nodes }
         ensures over { M.over self.new.names ≡ M.over self.old.names }

@@ -37,7 +37,9 @@ impl<N: Nodes + Drop, M: Names + Drop> Model for Ground<N, M> {
 
     ghost view = { λ g. g.keepers };
 
-    ghost invariant = { λ g. IsReady (M.roots g.keepers.names) (M.count g.keepers.names) (M.limit g.keepers.names) (N.is_taken g.keepers.nodes) (N.next g.keepers.nodes) (N.slots g.keepers.nodes) (vec_capacity g.keepers.frames) (vec_capacity g.keepers.search) };
+    ghost invariant = { λ g. IsReady (M.roots g.keepers.names) (M.count g.keepers.names)
+        (M.limit g.keepers.names) (N.is_taken g.keepers.nodes) (N.next g.keepers.nodes)
+        (N.slots g.keepers.nodes) (vec_capacity g.keepers.frames) (vec_capacity g.keepers.search) };
 }
 
 impl<N: Nodes + Drop, M: Names + Drop> Ground<N, M> {
@@ -77,7 +79,9 @@ impl<N: Nodes + Drop, M: Names + Drop> Ground<N, M> {
 
     /// A command is refused, and all is as before; or it has its effect. The steps are told each free, in order.
     pub fn apply<S: Steps>(&mut self, command: &Command, steps: &mut S) -> Result<(), Refused>
-        ensures applied { DoesCommand (Both (N.stands self.old.nodes) (M.stands self.old.names)) (Both (N.stands self.new.nodes) (M.stands self.new.names)) N.rule (refusal_of result) (command_of command.now) (S.told steps.old) (S.told steps.new) }
+        ensures applied { DoesCommand (Both (N.stands self.old.nodes) (M.stands self.old.names))
+            (Both (N.stands self.new.nodes) (M.stands self.new.names)) N.rule (refusal_of result)
+            (command_of command.now) (S.told steps.old) (S.told steps.new) }
         ensures lacks { S.lacks steps.new ≡ S.lacks steps.old }
         ensures plain { OnlyRises (N.is_plain self.old.nodes) (N.is_plain self.new.nodes) }
         ensures slots { N.slots self.new.nodes ≡ N.slots self.old.nodes }
@@ -96,8 +100,12 @@ impl<N: Nodes + Drop, M: Names + Drop> Ground<N, M> {
 
     /// The first event leaves the queue; its node, or number 0 for the wait.
     pub fn take(&mut self) -> Option<Link>
-        ensures head { (w : World) → N.stands self.old.nodes w → link_number result ≡ head_of w.queue }
-        ensures stands { (w : World) → N.stands self.old.nodes w → N.stands self.new.nodes (taken_world w) }
+        ensures head { (w : World)
+            → N.stands self.old.nodes w
+            → link_number result ≡ head_of w.queue }
+        ensures stands { (w : World)
+            → N.stands self.old.nodes w
+            → N.stands self.new.nodes (taken_world w) }
         ensures plain { OnlyRises (N.is_plain self.old.nodes) (N.is_plain self.new.nodes) }
         ensures slots { N.slots self.new.nodes ≡ N.slots self.old.nodes }
         ensures names { self.new.names ≡ self.old.names }
@@ -107,7 +115,9 @@ impl<N: Nodes + Drop, M: Names + Drop> Ground<N, M> {
 
     /// The first insertion point of the queue goes to the front.
     pub fn rewind(&mut self)
-        ensures stands { (w : World) → N.stands self.old.nodes w → N.stands self.new.nodes (rewound_world w) }
+        ensures stands { (w : World)
+            → N.stands self.old.nodes w
+            → N.stands self.new.nodes (rewound_world w) }
         ensures plain { OnlyRises (N.is_plain self.old.nodes) (N.is_plain self.new.nodes) }
         ensures slots { N.slots self.new.nodes ≡ N.slots self.old.nodes }
         ensures names { self.new.names ≡ self.old.names }
@@ -117,7 +127,9 @@ impl<N: Nodes + Drop, M: Names + Drop> Ground<N, M> {
 
     /// This event fires, or none.
     pub fn set_firing(&mut self, firing: Option<Link>)
-        ensures stands { (w : World) → N.stands self.old.nodes w → N.stands self.new.nodes (with_firing (link_number firing) w) }
+        ensures stands { (w : World)
+            → N.stands self.old.nodes w
+            → N.stands self.new.nodes (with_firing (link_number firing) w) }
         ensures plain { OnlyRises (N.is_plain self.old.nodes) (N.is_plain self.new.nodes) }
         ensures slots { N.slots self.new.nodes ≡ N.slots self.old.nodes }
         ensures names { self.new.names ≡ self.old.names }

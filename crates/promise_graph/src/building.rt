@@ -54,16 +54,28 @@ fn place_node<St: Store + Drop, Q: Queue + Drop>(
     before: Option<Slot>,
     form: Form,
 ) -> Slot
-    requires sound { IsSound (St.node_at g.old.store) (Q.events g.old.queue) (St.slots g.old.store) (Q.size g.old.queue) g.old.marks }
+    requires sound { IsSound (St.node_at g.old.store) (Q.events g.old.queue)
+        (St.slots g.old.store) (Q.size g.old.queue) g.old.marks }
     requires owners { length g.old.marks.owners.items ≡ g.old.marks.slots }
     requires bare { IsBareOrNone (St.is_bare g.old.store) (slot_number before) }
     requires fits { IsTrue (St.room g.old.store (row (slot_number before) 1 ∷ [])) }
     requires numbers { g.old.marks.next < 2 ^ 63 + 9 }
     requires room { vec_len g.old.marks.index < vec_capacity g.old.marks.index }
-    ensures sound { IsSound (St.node_at g.new.store) (Q.events g.new.queue) (St.slots g.new.store) (Q.size g.new.queue) g.new.marks }
-    ensures seen { (w : World) → IsSeen (St.node_at g.old.store) (Q.events g.old.queue) (St.stands g.old.store) g.old.marks w → IsSeen (St.node_at g.new.store) (Q.events g.new.queue) (St.stands g.new.store) g.new.marks (built (name_before (St.node_at g.old.store) (slot_number before)) (shown [] form) w) }
-    ensures added { IsAdded (St.node_at g.old.store) (St.node_at g.new.store) (St.is_bare g.old.store) (St.is_bare g.new.store) g.old.marks g.new.marks (slot_number before) result.0 form }
-    ensures rest { (more : List Row) (count : ℕ) → 0 < count → IsTrue (St.room g.old.store (row (slot_number before) count ∷ more)) → IsTrue (St.room g.new.store (rows_after result.0 count more)) }
+    ensures sound { IsSound (St.node_at g.new.store) (Q.events g.new.queue) (St.slots g.new.store)
+        (Q.size g.new.queue) g.new.marks }
+    ensures seen { (w : World)
+        → IsSeen (St.node_at g.old.store) (Q.events g.old.queue) (St.stands g.old.store)
+        g.old.marks w
+        → IsSeen (St.node_at g.new.store) (Q.events g.new.queue) (St.stands g.new.store)
+        g.new.marks
+        (built (name_before (St.node_at g.old.store) (slot_number before)) (shown [] form) w) }
+    ensures added { IsAdded (St.node_at g.old.store) (St.node_at g.new.store)
+        (St.is_bare g.old.store) (St.is_bare g.new.store) g.old.marks g.new.marks
+        (slot_number before) result.0 form }
+    ensures rest { (more : List Row) (count : ℕ)
+        → 0 < count
+        → IsTrue (St.room g.old.store (row (slot_number before) count ∷ more))
+        → IsTrue (St.room g.new.store (rows_after result.0 count more)) }
 {
     let number = g.marks.next;
     let is_hub = is_hub(&form);
@@ -89,24 +101,42 @@ pub(crate) fn build<St: Store + Drop, Q: Queue + Drop>(
     before: Option<Link>,
     form: Form,
 ) -> Link
-    requires kept { IsKept (St.node_at g.old.store) (St.is_bare g.old.store) (Q.events g.old.queue) (St.slots g.old.store) (Q.size g.old.queue) g.old.marks }
+    requires kept { IsKept (St.node_at g.old.store) (St.is_bare g.old.store)
+        (Q.events g.old.queue) (St.slots g.old.store) (Q.size g.old.queue) g.old.marks }
     requires before { IsPart (link_number before) (form_parts form) }
     requires roots { AreRoots (is_taken g.old.marks) (form_parts form) }
     requires built { AreBuilt g.old.marks.next (form_parts form) }
-    requires fits { IsTrue (room_of (St.room g.old.store) g.old.marks (row (link_number before) 1 ∷ [])) }
+    requires fits { IsTrue
+        (room_of (St.room g.old.store) g.old.marks (row (link_number before) 1 ∷ [])) }
     requires numbers { g.old.marks.next < 2 ^ 63 + 9 }
-    ensures kept { IsKept (St.node_at g.new.store) (St.is_bare g.new.store) (Q.events g.new.queue) (St.slots g.new.store) (Q.size g.new.queue) g.new.marks }
-    ensures stands { (w : World) → Stands (St.node_at g.old.store) (Q.events g.old.queue) (St.stands g.old.store) g.old.marks w → Stands (St.node_at g.new.store) (Q.events g.new.queue) (St.stands g.new.store) g.new.marks (built (link_number before) (shown [] form) w) }
+    ensures kept { IsKept (St.node_at g.new.store) (St.is_bare g.new.store) (Q.events g.new.queue)
+        (St.slots g.new.store) (Q.size g.new.queue) g.new.marks }
+    ensures stands { (w : World)
+        → Stands (St.node_at g.old.store) (Q.events g.old.queue) (St.stands g.old.store)
+        g.old.marks w
+        → Stands (St.node_at g.new.store) (Q.events g.new.queue) (St.stands g.new.store)
+        g.new.marks (built (link_number before) (shown [] form) w) }
     ensures number { result.number.0 ≡ g.old.marks.next }
-    ensures anew { (w : World) → Stands (St.node_at g.old.store) (Q.events g.old.queue) (St.stands g.old.store) g.old.marks w → form_at g.old.marks.next w.nodes ≡ None }
+    ensures anew { (w : World)
+        → Stands (St.node_at g.old.store) (Q.events g.old.queue) (St.stands g.old.store)
+        g.old.marks w
+        → form_at g.old.marks.next w.nodes ≡ None }
     ensures root { is_taken g.new.marks result.number.0 ≡ false }
     ensures unlisted { is_listed (St.node_at g.new.store) g.new.marks result.number.0 ≡ false }
     ensures next { g.new.marks.next ≡ g.old.marks.next + 1 }
     ensures slots { g.new.marks.slots ≡ g.old.marks.slots }
     ensures taken { RisesIn (form_parts form) (is_taken g.old.marks) (is_taken g.new.marks) }
-    ensures listed { OnlyFalls (is_listed (St.node_at g.old.store) g.old.marks) (is_listed (St.node_at g.new.store) g.new.marks) }
-    ensures plain { OnlyRises (is_plain (St.node_at g.old.store) g.old.marks) (is_plain (St.node_at g.new.store) g.new.marks) }
-    ensures rest { (more : List Row) (count : ℕ) → 0 < count → AreRowsBuilt g.old.marks.next more → IsTrue (room_of (St.room g.old.store) g.old.marks (row (link_number before) count ∷ more)) → IsTrue (room_of (St.room g.new.store) g.new.marks (rows_left g.old.marks.next count more)) }
+    ensures listed { OnlyFalls (is_listed (St.node_at g.old.store) g.old.marks)
+        (is_listed (St.node_at g.new.store) g.new.marks) }
+    ensures plain { OnlyRises (is_plain (St.node_at g.old.store) g.old.marks)
+        (is_plain (St.node_at g.new.store) g.new.marks) }
+    ensures rest { (more : List Row) (count : ℕ)
+        → 0 < count
+        → AreRowsBuilt g.old.marks.next more
+        → IsTrue
+        (room_of (St.room g.old.store) g.old.marks (row (link_number before) count ∷ more))
+        → IsTrue
+        (room_of (St.room g.new.store) g.new.marks (rows_left g.old.marks.next count more)) }
 {
     make_room(&g.store, &mut g.marks);
     let parts = parts(&form);

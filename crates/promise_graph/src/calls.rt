@@ -14,7 +14,8 @@ impl<St: Store + Drop, Q: Queue + Drop> Nodes for Graph<St, Q> {
     ghost use Rattle.promise_graph.specs.Rows.{room_of};
     ghost use Rattle.promise_graph.specs.Visits.{mark_of};
 
-    ghost stands = { λ g w. StandsFor (St.node_at g.store) (Q.events g.queue) (St.stands g.store) g.marks w };
+    ghost stands = { λ g w. StandsFor (St.node_at g.store) (Q.events g.queue) (St.stands g.store)
+        g.marks w };
 
     ghost slots = { λ g. g.marks.slots };
 
@@ -164,9 +165,11 @@ impl<St: Store + Drop, Q: Queue + Drop> Nodes for Graph<St, Q> {
 
     ghost few_branches = { λ g w hub st. st.few hub };
 
-    ghost left_out = { λ g front left back h. left_out (St.room g.store) g.marks (St.left_out g.store) front left back h };
+    ghost left_out = { λ g front left back h. left_out (St.room g.store) g.marks
+        (St.left_out g.store) front left back h };
 
-    ghost one_of_two = { λ g front before back h. one_of_two (St.room g.store) g.marks (St.one_of_two g.store) front before back h };
+    ghost one_of_two = { λ g front before back h. one_of_two (St.room g.store) g.marks
+        (St.one_of_two g.store) front before back h };
 
     ghost next_is = { λ g w st. st.stands.seen.next_is };
 

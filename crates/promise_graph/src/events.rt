@@ -17,7 +17,8 @@ use promise_nodes::Way;
 
 // The event of a live node, or of the wait.
 fn event_of<St: Store + Drop, Q: Queue + Drop>(g: &Fields<St, Q>, node: Link) -> Option<u32>
-    requires { IsKept (St.node_at g.now.store) (St.is_bare g.now.store) (Q.events g.now.queue) (St.slots g.now.store) (Q.size g.now.queue) g.now.marks }
+    requires { IsKept (St.node_at g.now.store) (St.is_bare g.now.store) (Q.events g.now.queue)
+        (St.slots g.now.store) (Q.size g.now.queue) g.now.marks }
     ensures { EventIs (St.node_at g.now.store) g.now.marks.next node.number.0 result }
 {
     if node.number.0 == 0 {
@@ -43,9 +44,16 @@ fn arm_event<Q: Queue>(queue: &mut Q, way: Way, event: u32)
 
 // The event of a live node, or of the wait, is armed.
 pub(crate) fn arm<St: Store + Drop, Q: Queue + Drop>(g: &mut Fields<St, Q>, way: Way, node: Link)
-    requires kept { IsKept (St.node_at g.old.store) (St.is_bare g.old.store) (Q.events g.old.queue) (St.slots g.old.store) (Q.size g.old.queue) g.old.marks }
-    ensures kept { IsKept (St.node_at g.new.store) (St.is_bare g.new.store) (Q.events g.new.queue) (St.slots g.new.store) (Q.size g.new.queue) g.new.marks }
-    ensures stands { (w : World) → Stands (St.node_at g.old.store) (Q.events g.old.queue) (St.stands g.old.store) g.old.marks w → IsEvent w node.number.0 → Stands (St.node_at g.new.store) (Q.events g.new.queue) (St.stands g.new.store) g.new.marks (arm_listener (way_of way) (Some node.number.0) w) }
+    requires kept { IsKept (St.node_at g.old.store) (St.is_bare g.old.store)
+        (Q.events g.old.queue) (St.slots g.old.store) (Q.size g.old.queue) g.old.marks }
+    ensures kept { IsKept (St.node_at g.new.store) (St.is_bare g.new.store) (Q.events g.new.queue)
+        (St.slots g.new.store) (Q.size g.new.queue) g.new.marks }
+    ensures stands { (w : World)
+        → Stands (St.node_at g.old.store) (Q.events g.old.queue) (St.stands g.old.store)
+        g.old.marks w
+        → IsEvent w node.number.0
+        → Stands (St.node_at g.new.store) (Q.events g.new.queue) (St.stands g.new.store)
+        g.new.marks (arm_listener (way_of way) (Some node.number.0) w) }
     ensures store { g.new.store ≡ g.old.store }
     ensures marks { g.new.marks ≡ g.old.marks }
 {
@@ -56,9 +64,15 @@ pub(crate) fn arm<St: Store + Drop, Q: Queue + Drop>(g: &mut Fields<St, Q>, way:
 
 // An event leaves the queue, if it is there.
 pub(crate) fn disarm<St: Store + Drop, Q: Queue + Drop>(g: &mut Fields<St, Q>, node: Link)
-    requires kept { IsKept (St.node_at g.old.store) (St.is_bare g.old.store) (Q.events g.old.queue) (St.slots g.old.store) (Q.size g.old.queue) g.old.marks }
-    ensures kept { IsKept (St.node_at g.new.store) (St.is_bare g.new.store) (Q.events g.new.queue) (St.slots g.new.store) (Q.size g.new.queue) g.new.marks }
-    ensures stands { (w : World) → Stands (St.node_at g.old.store) (Q.events g.old.queue) (St.stands g.old.store) g.old.marks w → Stands (St.node_at g.new.store) (Q.events g.new.queue) (St.stands g.new.store) g.new.marks (disarmed_node node.number.0 w) }
+    requires kept { IsKept (St.node_at g.old.store) (St.is_bare g.old.store)
+        (Q.events g.old.queue) (St.slots g.old.store) (Q.size g.old.queue) g.old.marks }
+    ensures kept { IsKept (St.node_at g.new.store) (St.is_bare g.new.store) (Q.events g.new.queue)
+        (St.slots g.new.store) (Q.size g.new.queue) g.new.marks }
+    ensures stands { (w : World)
+        → Stands (St.node_at g.old.store) (Q.events g.old.queue) (St.stands g.old.store)
+        g.old.marks w
+        → Stands (St.node_at g.new.store) (Q.events g.new.queue) (St.stands g.new.store)
+        g.new.marks (disarmed_node node.number.0 w) }
     ensures store { g.new.store ≡ g.old.store }
     ensures marks { g.new.marks ≡ g.old.marks }
 {
@@ -69,7 +83,8 @@ pub(crate) fn disarm<St: Store + Drop, Q: Queue + Drop>(g: &mut Fields<St, Q>, n
 
 // The node of an armed event, or number 0 for the wait.
 fn node_of<St: Store + Drop, Q: Queue + Drop>(g: &Fields<St, Q>, event: u32) -> Link
-    requires kept { IsKept (St.node_at g.now.store) (St.is_bare g.now.store) (Q.events g.now.queue) (St.slots g.now.store) (Q.size g.now.queue) g.now.marks }
+    requires kept { IsKept (St.node_at g.now.store) (St.is_bare g.now.store)
+        (Q.events g.now.queue) (St.slots g.now.store) (Q.size g.now.queue) g.now.marks }
     requires armed { IsArmable (St.node_at g.now.store) event }
     ensures { EventIs (St.node_at g.now.store) g.now.marks.next result.number.0 (Some event) }
 {
@@ -89,10 +104,19 @@ fn node_of<St: Store + Drop, Q: Queue + Drop>(g: &Fields<St, Q>, event: u32) -> 
 
 // The first event leaves the queue; its node, or number 0 for the wait.
 pub(crate) fn take<St: Store + Drop, Q: Queue + Drop>(g: &mut Fields<St, Q>) -> Option<Link>
-    requires kept { IsKept (St.node_at g.old.store) (St.is_bare g.old.store) (Q.events g.old.queue) (St.slots g.old.store) (Q.size g.old.queue) g.old.marks }
-    ensures kept { IsKept (St.node_at g.new.store) (St.is_bare g.new.store) (Q.events g.new.queue) (St.slots g.new.store) (Q.size g.new.queue) g.new.marks }
-    ensures head { (w : World) → Stands (St.node_at g.old.store) (Q.events g.old.queue) (St.stands g.old.store) g.old.marks w → link_number result ≡ head_of w.queue }
-    ensures stands { (w : World) → Stands (St.node_at g.old.store) (Q.events g.old.queue) (St.stands g.old.store) g.old.marks w → Stands (St.node_at g.new.store) (Q.events g.new.queue) (St.stands g.new.store) g.new.marks (taken_world w) }
+    requires kept { IsKept (St.node_at g.old.store) (St.is_bare g.old.store)
+        (Q.events g.old.queue) (St.slots g.old.store) (Q.size g.old.queue) g.old.marks }
+    ensures kept { IsKept (St.node_at g.new.store) (St.is_bare g.new.store) (Q.events g.new.queue)
+        (St.slots g.new.store) (Q.size g.new.queue) g.new.marks }
+    ensures head { (w : World)
+        → Stands (St.node_at g.old.store) (Q.events g.old.queue) (St.stands g.old.store)
+        g.old.marks w
+        → link_number result ≡ head_of w.queue }
+    ensures stands { (w : World)
+        → Stands (St.node_at g.old.store) (Q.events g.old.queue) (St.stands g.old.store)
+        g.old.marks w
+        → Stands (St.node_at g.new.store) (Q.events g.new.queue) (St.stands g.new.store)
+        g.new.marks (taken_world w) }
     ensures store { g.new.store ≡ g.old.store }
     ensures marks { g.new.marks ≡ g.old.marks }
 {
@@ -104,9 +128,15 @@ pub(crate) fn take<St: Store + Drop, Q: Queue + Drop>(g: &mut Fields<St, Q>) -> 
 
 // The first insertion point goes to the front.
 pub(crate) fn rewind<St: Store + Drop, Q: Queue + Drop>(g: &mut Fields<St, Q>)
-    requires kept { IsKept (St.node_at g.old.store) (St.is_bare g.old.store) (Q.events g.old.queue) (St.slots g.old.store) (Q.size g.old.queue) g.old.marks }
-    ensures kept { IsKept (St.node_at g.new.store) (St.is_bare g.new.store) (Q.events g.new.queue) (St.slots g.new.store) (Q.size g.new.queue) g.new.marks }
-    ensures stands { (w : World) → Stands (St.node_at g.old.store) (Q.events g.old.queue) (St.stands g.old.store) g.old.marks w → Stands (St.node_at g.new.store) (Q.events g.new.queue) (St.stands g.new.store) g.new.marks (rewound_world w) }
+    requires kept { IsKept (St.node_at g.old.store) (St.is_bare g.old.store)
+        (Q.events g.old.queue) (St.slots g.old.store) (Q.size g.old.queue) g.old.marks }
+    ensures kept { IsKept (St.node_at g.new.store) (St.is_bare g.new.store) (Q.events g.new.queue)
+        (St.slots g.new.store) (Q.size g.new.queue) g.new.marks }
+    ensures stands { (w : World)
+        → Stands (St.node_at g.old.store) (Q.events g.old.queue) (St.stands g.old.store)
+        g.old.marks w
+        → Stands (St.node_at g.new.store) (Q.events g.new.queue) (St.stands g.new.store)
+        g.new.marks (rewound_world w) }
     ensures store { g.new.store ≡ g.old.store }
     ensures marks { g.new.marks ≡ g.old.marks }
 {
@@ -118,10 +148,17 @@ pub(crate) fn set_firing<St: Store + Drop, Q: Queue + Drop>(
     g: &mut Fields<St, Q>,
     firing: Option<Link>,
 )
-    requires kept { IsKept (St.node_at g.old.store) (St.is_bare g.old.store) (Q.events g.old.queue) (St.slots g.old.store) (Q.size g.old.queue) g.old.marks }
-    ensures kept { IsKept (St.node_at g.new.store) (St.is_bare g.new.store) (Q.events g.new.queue) (St.slots g.new.store) (Q.size g.new.queue) g.new.marks }
-    ensures stands { (w : World) → Stands (St.node_at g.old.store) (Q.events g.old.queue) (St.stands g.old.store) g.old.marks w → Stands (St.node_at g.new.store) (Q.events g.new.queue) (St.stands g.new.store) g.new.marks (record w { firing = link_number firing }) }
-    ensures falls { Falls (St.node_at g.old.store) (St.node_at g.new.store) g.old.marks g.new.marks }
+    requires kept { IsKept (St.node_at g.old.store) (St.is_bare g.old.store)
+        (Q.events g.old.queue) (St.slots g.old.store) (Q.size g.old.queue) g.old.marks }
+    ensures kept { IsKept (St.node_at g.new.store) (St.is_bare g.new.store) (Q.events g.new.queue)
+        (St.slots g.new.store) (Q.size g.new.queue) g.new.marks }
+    ensures stands { (w : World)
+        → Stands (St.node_at g.old.store) (Q.events g.old.queue) (St.stands g.old.store)
+        g.old.marks w
+        → Stands (St.node_at g.new.store) (Q.events g.new.queue) (St.stands g.new.store)
+        g.new.marks (record w { firing = link_number firing }) }
+    ensures falls { Falls (St.node_at g.old.store) (St.node_at g.new.store) g.old.marks
+        g.new.marks }
 {
     g.marks.firing = firing;
 }
@@ -131,10 +168,18 @@ pub(crate) fn set_awaited<St: Store + Drop, Q: Queue + Drop>(
     g: &mut Fields<St, Q>,
     awaited: Option<Link>,
 )
-    requires kept { IsKept (St.node_at g.old.store) (St.is_bare g.old.store) (Q.events g.old.queue) (St.slots g.old.store) (Q.size g.old.queue) g.old.marks }
-    ensures kept { IsKept (St.node_at g.new.store) (St.is_bare g.new.store) (Q.events g.new.queue) (St.slots g.new.store) (Q.size g.new.queue) g.new.marks }
-    ensures stands { (w : World) (a : Option Awaited) → Stands (St.node_at g.old.store) (Q.events g.old.queue) (St.stands g.old.store) g.old.marks w → awaited_root a ≡ link_number awaited → Stands (St.node_at g.new.store) (Q.events g.new.queue) (St.stands g.new.store) g.new.marks (record w { awaited = a }) }
-    ensures falls { Falls (St.node_at g.old.store) (St.node_at g.new.store) g.old.marks g.new.marks }
+    requires kept { IsKept (St.node_at g.old.store) (St.is_bare g.old.store)
+        (Q.events g.old.queue) (St.slots g.old.store) (Q.size g.old.queue) g.old.marks }
+    ensures kept { IsKept (St.node_at g.new.store) (St.is_bare g.new.store) (Q.events g.new.queue)
+        (St.slots g.new.store) (Q.size g.new.queue) g.new.marks }
+    ensures stands { (w : World) (a : Option Awaited)
+        → Stands (St.node_at g.old.store) (Q.events g.old.queue) (St.stands g.old.store)
+        g.old.marks w
+        → awaited_root a ≡ link_number awaited
+        → Stands (St.node_at g.new.store) (Q.events g.new.queue) (St.stands g.new.store)
+        g.new.marks (record w { awaited = a }) }
+    ensures falls { Falls (St.node_at g.old.store) (St.node_at g.new.store) g.old.marks
+        g.new.marks }
 {
     g.marks.awaited = awaited;
 }

@@ -47,10 +47,16 @@ pub(crate) fn form<St: Store + Drop, Q: Queue + Drop>(
     g: &Fields<St, Q>,
     link: Link,
 ) -> Option<&Form>
-    requires { IsKept (St.node_at g.now.store) (St.is_bare g.now.store) (Q.events g.now.queue) (St.slots g.now.store) (Q.size g.now.queue) g.now.marks }
-    ensures form { (w : World) → Stands (St.node_at g.now.store) (Q.events g.now.queue) (St.stands g.now.store) g.now.marks w → Sees (option_copied result) (form_at link.number.0 w.nodes) }
-    ensures listed { is_listed (St.node_at g.now.store) g.now.marks link.number.0 ≡ true → IsBranch (option_copied result) }
-    ensures plain { ShowsPlain (option_copied result) → is_plain (St.node_at g.now.store) g.now.marks link.number.0 ≡ true }
+    requires { IsKept (St.node_at g.now.store) (St.is_bare g.now.store) (Q.events g.now.queue)
+        (St.slots g.now.store) (Q.size g.now.queue) g.now.marks }
+    ensures form { (w : World)
+        → Stands (St.node_at g.now.store) (Q.events g.now.queue) (St.stands g.now.store)
+        g.now.marks w
+        → Sees (option_copied result) (form_at link.number.0 w.nodes) }
+    ensures listed { is_listed (St.node_at g.now.store) g.now.marks link.number.0 ≡ true
+        → IsBranch (option_copied result) }
+    ensures plain { ShowsPlain (option_copied result)
+        → is_plain (St.node_at g.now.store) g.now.marks link.number.0 ≡ true }
 {
     let Some(slot) = find(g, link) else {
         return None;

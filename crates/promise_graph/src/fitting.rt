@@ -39,7 +39,8 @@ fn placed_rows<St: Store + Drop, Q: Queue + Drop>(
 ) -> [Row; MOST_ROWS]
     requires numbered { AreNumbered (St.node_at g.now.store) g.now.marks }
     requires few { length rows.now ≤ 16 }
-    ensures { rows_of (take (length rows.now) result) ≡ map (row_at g.now.marks) (rows_seen rows.now) }
+    ensures { rows_of (take (length rows.now) result)
+        ≡ map (row_at g.now.marks) (rows_seen rows.now) }
 {
     let mut placed = [NO_ROW; MOST_ROWS];
     'placing: for at in 0..rows.len() {
@@ -50,10 +51,14 @@ fn placed_rows<St: Store + Drop, Q: Queue + Drop>(
 
 // Whether nodes in these rows can be placed.
 pub(crate) fn fits<St: Store + Drop, Q: Queue + Drop>(g: &Fields<St, Q>, rows: &[NodeRow]) -> bool
-    requires kept { IsKept (St.node_at g.now.store) (St.is_bare g.now.store) (Q.events g.now.queue) (St.slots g.now.store) (Q.size g.now.queue) g.now.marks }
+    requires kept { IsKept (St.node_at g.now.store) (St.is_bare g.now.store)
+        (Q.events g.now.queue) (St.slots g.now.store) (Q.size g.now.queue) g.now.marks }
     requires few { length rows.now ≤ 16 }
     ensures room { result ≡ room_of (St.room g.now.store) g.now.marks (rows_seen rows.now) }
-    ensures ruled { (w : World) → Stands (St.node_at g.now.store) (Q.events g.now.queue) (St.stands g.now.store) g.now.marks w → result ≡ St.rule g.now.marks.slots w.spots (rows_seen rows.now) }
+    ensures ruled { (w : World)
+        → Stands (St.node_at g.now.store) (Q.events g.now.queue) (St.stands g.now.store)
+        g.now.marks w
+        → result ≡ St.rule g.now.marks.slots w.spots (rows_seen rows.now) }
 {
     let placed = placed_rows(g, rows);
     g.store.fits(&placed[..rows.len()])

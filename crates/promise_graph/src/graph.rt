@@ -28,7 +28,9 @@ impl<St: Store + Drop, Q: Queue + Drop> Model for Graph<St, Q> {
 
     ghost view = { λ a. whole a.fields a.visits };
 
-    ghost invariant = { λ a. IsKept (St.node_at a.fields.store) (St.is_bare a.fields.store) (Q.events a.fields.queue) (St.slots a.fields.store) (Q.size a.fields.queue) a.fields.marks × AreVisits a.visits a.fields.marks.slots };
+    ghost invariant = { λ a. IsKept (St.node_at a.fields.store) (St.is_bare a.fields.store)
+        (Q.events a.fields.queue) (St.slots a.fields.store) (Q.size a.fields.queue) a.fields.marks
+        × AreVisits a.visits a.fields.marks.slots };
 }
 
 impl<St: Store + Drop, Q: Queue + Drop> Graph<St, Q> {
@@ -40,7 +42,9 @@ impl<St: Store + Drop, Q: Queue + Drop> Graph<St, Q> {
         requires no_nodes { (s : ℕ) → St.node_at store s ≡ None }
         requires no_events { Q.events queue ≡ no_events }
         requires no_spots { St.stands store [] }
-        ensures stands { IfOk result (λ g. (all : Limits) → all.slots ≡ limits.slots → StandsFor (St.node_at g.store) (Q.events g.queue) (St.stands g.store) g.marks (new_world all)) }
+        ensures stands { IfOk result (λ g. (all : Limits) → all.slots ≡ limits.slots → StandsFor
+            (St.node_at g.store) (Q.events g.queue) (St.stands g.store) g.marks
+            (new_world all)) }
         ensures slots { IfOk result (λ g. g.marks.slots ≡ limits.slots) }
     {
         let marks = new_marks(alloc, limits.slots)?;

@@ -22,23 +22,39 @@ use kj_base::{Form, Link, NodeId, Queue, Slot, Store};
 
 // A branch in a slot leaves its ring.
 fn leave_slot<St: Store + Drop, Q: Queue + Drop>(g: &mut Fields<St, Q>, slot: Slot, branch: u64)
-    requires kept { IsKept (St.node_at g.old.store) (St.is_bare g.old.store) (Q.events g.old.queue) (St.slots g.old.store) (Q.size g.old.queue) g.old.marks }
+    requires kept { IsKept (St.node_at g.old.store) (St.is_bare g.old.store)
+        (Q.events g.old.queue) (St.slots g.old.store) (Q.size g.old.queue) g.old.marks }
     requires live { number_at (St.node_at g.old.store) slot.0 ≡ Some branch }
-    ensures kept { IsKept (St.node_at g.new.store) (St.is_bare g.new.store) (Q.events g.new.queue) (St.slots g.new.store) (Q.size g.new.queue) g.new.marks }
-    ensures stands { (w : World) (hub : ℕ) → Stands (St.node_at g.old.store) (Q.events g.old.queue) (St.stands g.old.store) g.old.marks w → form_at branch w.nodes ≡ Some (Branch hub) → Stands (St.node_at g.new.store) (Q.events g.new.queue) (St.stands g.new.store) g.new.marks (without_branch branch hub w) }
+    ensures kept { IsKept (St.node_at g.new.store) (St.is_bare g.new.store) (Q.events g.new.queue)
+        (St.slots g.new.store) (Q.size g.new.queue) g.new.marks }
+    ensures stands { (w : World) (hub : ℕ)
+        → Stands (St.node_at g.old.store) (Q.events g.old.queue) (St.stands g.old.store)
+        g.old.marks w
+        → form_at branch w.nodes ≡ Some (Branch hub)
+        → Stands (St.node_at g.new.store) (Q.events g.new.queue) (St.stands g.new.store)
+        g.new.marks (without_branch branch hub w) }
     ensures unlisted { is_listed (St.node_at g.new.store) g.new.marks branch ≡ false }
-    ensures falls { Falls (St.node_at g.old.store) (St.node_at g.new.store) g.old.marks g.new.marks }
+    ensures falls { Falls (St.node_at g.old.store) (St.node_at g.new.store) g.old.marks
+        g.new.marks }
 {
     cut(&mut g.marks.rings, slot.0);
 }
 
 // A branch leaves its hub.
 fn leave<St: Store + Drop, Q: Queue + Drop>(g: &mut Fields<St, Q>, branch: Link)
-    requires kept { IsKept (St.node_at g.old.store) (St.is_bare g.old.store) (Q.events g.old.queue) (St.slots g.old.store) (Q.size g.old.queue) g.old.marks }
-    ensures kept { IsKept (St.node_at g.new.store) (St.is_bare g.new.store) (Q.events g.new.queue) (St.slots g.new.store) (Q.size g.new.queue) g.new.marks }
-    ensures stands { (w : World) (hub : ℕ) → Stands (St.node_at g.old.store) (Q.events g.old.queue) (St.stands g.old.store) g.old.marks w → form_at branch.number.0 w.nodes ≡ Some (Branch hub) → Stands (St.node_at g.new.store) (Q.events g.new.queue) (St.stands g.new.store) g.new.marks (without_branch branch.number.0 hub w) }
+    requires kept { IsKept (St.node_at g.old.store) (St.is_bare g.old.store)
+        (Q.events g.old.queue) (St.slots g.old.store) (Q.size g.old.queue) g.old.marks }
+    ensures kept { IsKept (St.node_at g.new.store) (St.is_bare g.new.store) (Q.events g.new.queue)
+        (St.slots g.new.store) (Q.size g.new.queue) g.new.marks }
+    ensures stands { (w : World) (hub : ℕ)
+        → Stands (St.node_at g.old.store) (Q.events g.old.queue) (St.stands g.old.store)
+        g.old.marks w
+        → form_at branch.number.0 w.nodes ≡ Some (Branch hub)
+        → Stands (St.node_at g.new.store) (Q.events g.new.queue) (St.stands g.new.store)
+        g.new.marks (without_branch branch.number.0 hub w) }
     ensures unlisted { is_listed (St.node_at g.new.store) g.new.marks branch.number.0 ≡ false }
-    ensures falls { Falls (St.node_at g.old.store) (St.node_at g.new.store) g.old.marks g.new.marks }
+    ensures falls { Falls (St.node_at g.old.store) (St.node_at g.new.store) g.old.marks
+        g.new.marks }
 {
     if let Some(slot) = find(g, branch) {
         leave_slot(g, slot, branch.number.0);
@@ -63,8 +79,12 @@ pub(crate) fn is_unreferenced<St: Store + Drop, Q: Queue + Drop>(
     g: &Fields<St, Q>,
     hub: Link,
 ) -> bool
-    requires { IsKept (St.node_at g.now.store) (St.is_bare g.now.store) (Q.events g.now.queue) (St.slots g.now.store) (Q.size g.now.queue) g.now.marks }
-    ensures { (w : World) → Stands (St.node_at g.now.store) (Q.events g.now.queue) (St.stands g.now.store) g.now.marks w → result ≡ is_unreferenced (form_at hub.number.0 w.nodes) }
+    requires { IsKept (St.node_at g.now.store) (St.is_bare g.now.store) (Q.events g.now.queue)
+        (St.slots g.now.store) (Q.size g.now.queue) g.now.marks }
+    ensures { (w : World)
+        → Stands (St.node_at g.now.store) (Q.events g.now.queue) (St.stands g.now.store)
+        g.now.marks w
+        → result ≡ is_unreferenced (form_at hub.number.0 w.nodes) }
 {
     let Some(slot) = find(g, hub) else {
         return false;
@@ -78,12 +98,25 @@ pub(crate) fn leave_hub<St: Store + Drop, Q: Queue + Drop>(
     branch: Link,
     hub: Link,
 ) -> bool
-    requires kept { IsKept (St.node_at g.old.store) (St.is_bare g.old.store) (Q.events g.old.queue) (St.slots g.old.store) (Q.size g.old.queue) g.old.marks }
-    ensures kept { IsKept (St.node_at g.new.store) (St.is_bare g.new.store) (Q.events g.new.queue) (St.slots g.new.store) (Q.size g.new.queue) g.new.marks }
-    ensures stands { (w : World) → Stands (St.node_at g.old.store) (Q.events g.old.queue) (St.stands g.old.store) g.old.marks w → form_at branch.number.0 w.nodes ≡ Some (Branch hub.number.0) → Stands (St.node_at g.new.store) (Q.events g.new.queue) (St.stands g.new.store) g.new.marks (without_branch branch.number.0 hub.number.0 w) }
-    ensures last { (w : World) → Stands (St.node_at g.old.store) (Q.events g.old.queue) (St.stands g.old.store) g.old.marks w → form_at branch.number.0 w.nodes ≡ Some (Branch hub.number.0) → result ≡ is_unreferenced (form_at hub.number.0 (without_branch branch.number.0 hub.number.0 w).nodes) }
+    requires kept { IsKept (St.node_at g.old.store) (St.is_bare g.old.store)
+        (Q.events g.old.queue) (St.slots g.old.store) (Q.size g.old.queue) g.old.marks }
+    ensures kept { IsKept (St.node_at g.new.store) (St.is_bare g.new.store) (Q.events g.new.queue)
+        (St.slots g.new.store) (Q.size g.new.queue) g.new.marks }
+    ensures stands { (w : World)
+        → Stands (St.node_at g.old.store) (Q.events g.old.queue) (St.stands g.old.store)
+        g.old.marks w
+        → form_at branch.number.0 w.nodes ≡ Some (Branch hub.number.0)
+        → Stands (St.node_at g.new.store) (Q.events g.new.queue) (St.stands g.new.store)
+        g.new.marks (without_branch branch.number.0 hub.number.0 w) }
+    ensures last { (w : World)
+        → Stands (St.node_at g.old.store) (Q.events g.old.queue) (St.stands g.old.store)
+        g.old.marks w
+        → form_at branch.number.0 w.nodes ≡ Some (Branch hub.number.0)
+        → result ≡ is_unreferenced
+        (form_at hub.number.0 (without_branch branch.number.0 hub.number.0 w).nodes) }
     ensures unlisted { is_listed (St.node_at g.new.store) g.new.marks branch.number.0 ≡ false }
-    ensures falls { Falls (St.node_at g.old.store) (St.node_at g.new.store) g.old.marks g.new.marks }
+    ensures falls { Falls (St.node_at g.old.store) (St.node_at g.new.store) g.old.marks
+        g.new.marks }
 {
     leave(g, branch);
     is_unreferenced(g, hub)
@@ -96,7 +129,9 @@ fn branch_in<St: Store + Drop, Q: Queue + Drop>(
     hub: u64,
 ) -> Option<Link>
     requires { slot < length g.now.marks.numbers.items }
-    ensures { link_number result ≡ (if slice_index_or g.now.marks.numbers.items slot 0 == hub then None else Some (slice_index_or g.now.marks.numbers.items slot 0)) }
+    ensures { link_number result
+        ≡ (if slice_index_or g.now.marks.numbers.items slot 0 == hub then None else Some
+        (slice_index_or g.now.marks.numbers.items slot 0)) }
 {
     let number = g.marks.numbers[slot as usize];
     if number == hub {
@@ -113,8 +148,12 @@ pub(crate) fn first_branch<St: Store + Drop, Q: Queue + Drop>(
     g: &Fields<St, Q>,
     hub: Link,
 ) -> Option<Link>
-    requires { IsKept (St.node_at g.now.store) (St.is_bare g.now.store) (Q.events g.now.queue) (St.slots g.now.store) (Q.size g.now.queue) g.now.marks }
-    ensures { (w : World) → Stands (St.node_at g.now.store) (Q.events g.now.queue) (St.stands g.now.store) g.now.marks w → link_number result ≡ first_of (branches_of (form_at hub.number.0 w.nodes)) }
+    requires { IsKept (St.node_at g.now.store) (St.is_bare g.now.store) (Q.events g.now.queue)
+        (St.slots g.now.store) (Q.size g.now.queue) g.now.marks }
+    ensures { (w : World)
+        → Stands (St.node_at g.now.store) (Q.events g.now.queue) (St.stands g.now.store)
+        g.now.marks w
+        → link_number result ≡ first_of (branches_of (form_at hub.number.0 w.nodes)) }
 {
     let Some(slot) = find(g, hub) else {
         return None;
@@ -130,8 +169,13 @@ pub(crate) fn next_branch<St: Store + Drop, Q: Queue + Drop>(
     g: &Fields<St, Q>,
     branch: Link,
 ) -> Option<Link>
-    requires { IsKept (St.node_at g.now.store) (St.is_bare g.now.store) (Q.events g.now.queue) (St.slots g.now.store) (Q.size g.now.queue) g.now.marks }
-    ensures { (w : World) (hub : ℕ) (front back : List ℕ) → Stands (St.node_at g.now.store) (Q.events g.now.queue) (St.stands g.now.store) g.now.marks w → branches_of (form_at hub w.nodes) ≡ front ++ branch.number.0 ∷ back → link_number result ≡ first_of back }
+    requires { IsKept (St.node_at g.now.store) (St.is_bare g.now.store) (Q.events g.now.queue)
+        (St.slots g.now.store) (Q.size g.now.queue) g.now.marks }
+    ensures { (w : World) (hub : ℕ) (front back : List ℕ)
+        → Stands (St.node_at g.now.store) (Q.events g.now.queue) (St.stands g.now.store)
+        g.now.marks w
+        → branches_of (form_at hub w.nodes) ≡ front ++ branch.number.0 ∷ back
+        → link_number result ≡ first_of back }
 {
     let Some(slot) = find(g, branch) else {
         return None;
@@ -151,7 +195,9 @@ fn is_branch_of<St: Store + Drop, Q: Queue + Drop>(
 ) -> bool
     requires branch { IsSome (St.node_at g.now.store branch.0) }
     requires hub { IsSome (St.node_at g.now.store slot.0) }
-    ensures { result ≡ (is_same (hub_of (St.node_at g.now.store branch.0)) (Some hub) && is_hub_node (St.node_at g.now.store slot.0)) }
+    ensures { result
+        ≡ (is_same (hub_of (St.node_at g.now.store branch.0)) (Some hub) && is_hub_node
+        (St.node_at g.now.store slot.0)) }
 {
     hub_of(&g.store.get(branch).form) == Some(hub) && is_hub(&g.store.get(slot).form)
 }
@@ -164,14 +210,22 @@ fn join_slot<St: Store + Drop, Q: Queue + Drop>(
     hub_slot: Slot,
     hub: u64,
 )
-    requires kept { IsKept (St.node_at g.old.store) (St.is_bare g.old.store) (Q.events g.old.queue) (St.slots g.old.store) (Q.size g.old.queue) g.old.marks }
+    requires kept { IsKept (St.node_at g.old.store) (St.is_bare g.old.store)
+        (Q.events g.old.queue) (St.slots g.old.store) (Q.size g.old.queue) g.old.marks }
     requires live { number_at (St.node_at g.old.store) slot.0 ≡ Some branch }
     requires hub_live { number_at (St.node_at g.old.store) hub_slot.0 ≡ Some hub }
-    requires is { (is_same (hub_of (St.node_at g.old.store slot.0)) (Some hub) && is_hub_node (St.node_at g.old.store hub_slot.0)) ≡ true }
+    requires is { (is_same (hub_of (St.node_at g.old.store slot.0)) (Some hub) && is_hub_node
+        (St.node_at g.old.store hub_slot.0)) ≡ true }
     requires unlisted { is_listed (St.node_at g.old.store) g.old.marks branch ≡ false }
-    ensures kept { IsKept (St.node_at g.new.store) (St.is_bare g.new.store) (Q.events g.new.queue) (St.slots g.new.store) (Q.size g.new.queue) g.new.marks }
-    ensures stands { (w : World) → Stands (St.node_at g.old.store) (Q.events g.old.queue) (St.stands g.old.store) g.old.marks w → Stands (St.node_at g.new.store) (Q.events g.new.queue) (St.stands g.new.store) g.new.marks (with_branch_in branch hub (form_at hub w.nodes) w) }
-    ensures rises { Rises (branch ∷ []) (St.node_at g.old.store) (St.node_at g.new.store) g.old.marks g.new.marks }
+    ensures kept { IsKept (St.node_at g.new.store) (St.is_bare g.new.store) (Q.events g.new.queue)
+        (St.slots g.new.store) (Q.size g.new.queue) g.new.marks }
+    ensures stands { (w : World)
+        → Stands (St.node_at g.old.store) (Q.events g.old.queue) (St.stands g.old.store)
+        g.old.marks w
+        → Stands (St.node_at g.new.store) (Q.events g.new.queue) (St.stands g.new.store)
+        g.new.marks (with_branch_in branch hub (form_at hub w.nodes) w) }
+    ensures rises { Rises (branch ∷ []) (St.node_at g.old.store) (St.node_at g.new.store)
+        g.old.marks g.new.marks }
 {
     join(&mut g.marks.rings, slot.0, hub_slot.0);
 }
@@ -182,11 +236,20 @@ pub(crate) fn join_hub<St: Store + Drop, Q: Queue + Drop>(
     branch: Link,
     hub: Link,
 )
-    requires kept { IsKept (St.node_at g.old.store) (St.is_bare g.old.store) (Q.events g.old.queue) (St.slots g.old.store) (Q.size g.old.queue) g.old.marks }
+    requires kept { IsKept (St.node_at g.old.store) (St.is_bare g.old.store)
+        (Q.events g.old.queue) (St.slots g.old.store) (Q.size g.old.queue) g.old.marks }
     requires unlisted { is_listed (St.node_at g.old.store) g.old.marks branch.number.0 ≡ false }
-    ensures kept { IsKept (St.node_at g.new.store) (St.is_bare g.new.store) (Q.events g.new.queue) (St.slots g.new.store) (Q.size g.new.queue) g.new.marks }
-    ensures stands { (w : World) → Stands (St.node_at g.old.store) (Q.events g.old.queue) (St.stands g.old.store) g.old.marks w → form_at branch.number.0 w.nodes ≡ Some (Branch hub.number.0) → Stands (St.node_at g.new.store) (Q.events g.new.queue) (St.stands g.new.store) g.new.marks (with_branch_in branch.number.0 hub.number.0 (form_at hub.number.0 w.nodes) w) }
-    ensures rises { Rises (branch.number.0 ∷ []) (St.node_at g.old.store) (St.node_at g.new.store) g.old.marks g.new.marks }
+    ensures kept { IsKept (St.node_at g.new.store) (St.is_bare g.new.store) (Q.events g.new.queue)
+        (St.slots g.new.store) (Q.size g.new.queue) g.new.marks }
+    ensures stands { (w : World)
+        → Stands (St.node_at g.old.store) (Q.events g.old.queue) (St.stands g.old.store)
+        g.old.marks w
+        → form_at branch.number.0 w.nodes ≡ Some (Branch hub.number.0)
+        → Stands (St.node_at g.new.store) (Q.events g.new.queue) (St.stands g.new.store)
+        g.new.marks
+        (with_branch_in branch.number.0 hub.number.0 (form_at hub.number.0 w.nodes) w) }
+    ensures rises { Rises (branch.number.0 ∷ []) (St.node_at g.old.store) (St.node_at g.new.store)
+        g.old.marks g.new.marks }
 {
     let Some(slot) = find(g, branch) else {
         return;

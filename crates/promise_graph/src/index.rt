@@ -62,7 +62,8 @@ pub(crate) fn compact(index: &mut Vec<Entry>, numbers: &Vec<u64>)
 // One more entry, for which there is room.
 pub(crate) fn add_entry(index: &mut Vec<Entry>, number: u64, slot: u32)
     requires { vec_len index.old < vec_capacity index.old }
-    ensures items { index.new.items ≡ index.old.items ++ record { number = number; slot = slot } ∷ [] }
+    ensures items { index.new.items
+        ≡ index.old.items ++ record { number = number; slot = slot } ∷ [] }
     ensures capacity { vec_capacity index.old ≤ vec_capacity index.new }
 {
     let _ = index.push(Entry { number, slot });

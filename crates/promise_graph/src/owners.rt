@@ -32,8 +32,13 @@ pub(crate) fn owner<St: Store + Drop, Q: Queue + Drop>(
     g: &Fields<St, Q>,
     node: Link,
 ) -> Option<Link>
-    requires { IsKept (St.node_at g.now.store) (St.is_bare g.now.store) (Q.events g.now.queue) (St.slots g.now.store) (Q.size g.now.queue) g.now.marks }
-    ensures owner { (w : World) → Stands (St.node_at g.now.store) (Q.events g.now.queue) (St.stands g.now.store) g.now.marks w → IsLive w node.number.0 → SeesOwner w.nodes result (owner_of node.number.0 w.nodes) }
+    requires { IsKept (St.node_at g.now.store) (St.is_bare g.now.store) (Q.events g.now.queue)
+        (St.slots g.now.store) (Q.size g.now.queue) g.now.marks }
+    ensures owner { (w : World)
+        → Stands (St.node_at g.now.store) (Q.events g.now.queue) (St.stands g.now.store)
+        g.now.marks w
+        → IsLive w node.number.0
+        → SeesOwner w.nodes result (owner_of node.number.0 w.nodes) }
     ensures root { is_taken g.now.marks node.number.0 ≡ false → result ≡ None }
     ensures live { HasLink (St.node_at g.now.store) result }
 {
@@ -59,8 +64,12 @@ pub(crate) fn take_part<St: Store + Drop>(store: &St, marks: &mut Marks, part: L
     requires owners { length marks.old.owners.items ≡ marks.old.slots }
     ensures others { marks.new ≡ record marks.old { owners = marks.new.owners } }
     ensures all { length marks.new.owners.items ≡ marks.old.slots }
-    ensures here { (s : ℕ) → number_at (St.node_at store.now) s ≡ Some part.number.0 → taker_at marks.new s ≡ taker.number.0 }
-    ensures elsewhere { (s : ℕ) → number_at (St.node_at store.now) s ≢ Some part.number.0 → taker_at marks.new s ≡ taker_at marks.old s }
+    ensures here { (s : ℕ)
+        → number_at (St.node_at store.now) s ≡ Some part.number.0
+        → taker_at marks.new s ≡ taker.number.0 }
+    ensures elsewhere { (s : ℕ)
+        → number_at (St.node_at store.now) s ≢ Some part.number.0
+        → taker_at marks.new s ≡ taker_at marks.old s }
 {
     if let Some(slot) = find_slot(store, marks, part) {
         set_taker(&mut marks.owners, slot.0, taker);
@@ -73,7 +82,10 @@ pub(crate) fn take_parts<St: Store + Drop>(store: &St, marks: &mut Marks, parts:
     requires owners { length marks.old.owners.items ≡ marks.old.slots }
     ensures others { marks.new ≡ record marks.old { owners = marks.new.owners } }
     ensures all { length marks.new.owners.items ≡ marks.old.slots }
-    ensures takers { (s n : ℕ) → number_at (St.node_at store.now) s ≡ Some n → taker_at marks.new s ≡ (if is_in n (run_from parts.count parts.first.number.0) then taker.number.0 else taker_at marks.old s) }
+    ensures takers { (s n : ℕ)
+        → number_at (St.node_at store.now) s ≡ Some n
+        → taker_at marks.new s ≡ (if is_in n (run_from parts.count parts.first.number.0) then
+        taker.number.0 else taker_at marks.old s) }
 {
     let mut at = parts.first.number.0;
     let mut left = parts.count;

@@ -42,7 +42,8 @@ fn tree_parts(tree: &Option<Link>) -> Span
 }
 
 fn content_parts(content: &Content) -> Span
-    ensures { content_parts (content_shown content.now) ≡ run_from result.count result.first.number.0 }
+    ensures { content_parts (content_shown content.now)
+        ≡ run_from result.count result.first.number.0 }
 {
     match content {
         Content::Tree(link) => one_part(*link),

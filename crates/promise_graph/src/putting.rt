@@ -45,13 +45,23 @@ pub(crate) fn set_form<St: Store + Drop, Q: Queue + Drop>(
     n: u64,
     form: Form,
 )
-    requires kept { IsKept (St.node_at g.old.store) (St.is_bare g.old.store) (Q.events g.old.queue) (St.slots g.old.store) (Q.size g.old.queue) g.old.marks }
+    requires kept { IsKept (St.node_at g.old.store) (St.is_bare g.old.store)
+        (Q.events g.old.queue) (St.slots g.old.store) (Q.size g.old.queue) g.old.marks }
     requires live { number_at (St.node_at g.old.store) slot.0 ≡ Some n }
-    requires kind { (node : Node) → St.node_at g.old.store slot.0 ≡ Some node → is_same_kind node.form form ≡ true }
-    ensures kept { IsKept (St.node_at g.new.store) (St.is_bare g.new.store) (Q.events g.new.queue) (St.slots g.new.store) (Q.size g.new.queue) g.new.marks }
-    ensures seen { (w : World) → IsSeen (St.node_at g.old.store) (Q.events g.old.queue) (St.stands g.old.store) g.old.marks w → IsSeen (St.node_at g.new.store) (Q.events g.new.queue) (St.stands g.new.store) g.new.marks (put_form n form w) }
-    ensures falls { Falls (St.node_at g.old.store) (St.node_at g.new.store) g.old.marks g.new.marks }
-    ensures changed { St.node_at g.new.store slot.0 ≡ Some (record { number = record { 0 = n }; form = form }) }
+    requires kind { (node : Node)
+        → St.node_at g.old.store slot.0 ≡ Some node
+        → is_same_kind node.form form ≡ true }
+    ensures kept { IsKept (St.node_at g.new.store) (St.is_bare g.new.store) (Q.events g.new.queue)
+        (St.slots g.new.store) (Q.size g.new.queue) g.new.marks }
+    ensures seen { (w : World)
+        → IsSeen (St.node_at g.old.store) (Q.events g.old.queue) (St.stands g.old.store)
+        g.old.marks w
+        → IsSeen (St.node_at g.new.store) (Q.events g.new.queue) (St.stands g.new.store)
+        g.new.marks (put_form n form w) }
+    ensures falls { Falls (St.node_at g.old.store) (St.node_at g.new.store) g.old.marks
+        g.new.marks }
+    ensures changed { St.node_at g.new.store slot.0
+        ≡ Some (record { number = record { 0 = n }; form = form }) }
     ensures nodes { KeepsOthers (St.node_at g.old.store) (St.node_at g.new.store) slot.0 }
     ensures marks { g.new.marks ≡ g.old.marks }
 {
@@ -66,22 +76,41 @@ pub(crate) fn set_form<St: Store + Drop, Q: Queue + Drop>(
 
 // The node in a slot has this form now, which is of its kind and has no new tree.
 fn put_in<St: Store + Drop, Q: Queue + Drop>(g: &mut Fields<St, Q>, slot: Slot, n: u64, form: Form)
-    requires kept { IsKept (St.node_at g.old.store) (St.is_bare g.old.store) (Q.events g.old.queue) (St.slots g.old.store) (Q.size g.old.queue) g.old.marks }
+    requires kept { IsKept (St.node_at g.old.store) (St.is_bare g.old.store)
+        (Q.events g.old.queue) (St.slots g.old.store) (Q.size g.old.queue) g.old.marks }
     requires live { number_at (St.node_at g.old.store) slot.0 ≡ Some n }
-    requires kind { (node : Node) → St.node_at g.old.store slot.0 ≡ Some node → is_same_kind node.form form ≡ true }
-    ensures kept { IsKept (St.node_at g.new.store) (St.is_bare g.new.store) (Q.events g.new.queue) (St.slots g.new.store) (Q.size g.new.queue) g.new.marks }
-    ensures stands { (w : World) → Stands (St.node_at g.old.store) (Q.events g.old.queue) (St.stands g.old.store) g.old.marks w → AddsNone w n (shown [] form) → Stands (St.node_at g.new.store) (Q.events g.new.queue) (St.stands g.new.store) g.new.marks (put_form n form w) }
-    ensures falls { Falls (St.node_at g.old.store) (St.node_at g.new.store) g.old.marks g.new.marks }
+    requires kind { (node : Node)
+        → St.node_at g.old.store slot.0 ≡ Some node
+        → is_same_kind node.form form ≡ true }
+    ensures kept { IsKept (St.node_at g.new.store) (St.is_bare g.new.store) (Q.events g.new.queue)
+        (St.slots g.new.store) (Q.size g.new.queue) g.new.marks }
+    ensures stands { (w : World)
+        → Stands (St.node_at g.old.store) (Q.events g.old.queue) (St.stands g.old.store)
+        g.old.marks w
+        → AddsNone w n (shown [] form)
+        → Stands (St.node_at g.new.store) (Q.events g.new.queue) (St.stands g.new.store)
+        g.new.marks (put_form n form w) }
+    ensures falls { Falls (St.node_at g.old.store) (St.node_at g.new.store) g.old.marks
+        g.new.marks }
 {
     set_form(g, slot, n, form);
 }
 
 // A node has this form now, where it is live and was of this kind before.
 pub(crate) fn put<St: Store + Drop, Q: Queue + Drop>(g: &mut Fields<St, Q>, node: Link, form: Form)
-    requires kept { IsKept (St.node_at g.old.store) (St.is_bare g.old.store) (Q.events g.old.queue) (St.slots g.old.store) (Q.size g.old.queue) g.old.marks }
-    ensures kept { IsKept (St.node_at g.new.store) (St.is_bare g.new.store) (Q.events g.new.queue) (St.slots g.new.store) (Q.size g.new.queue) g.new.marks }
-    ensures stands { (w : World) → Stands (St.node_at g.old.store) (Q.events g.old.queue) (St.stands g.old.store) g.old.marks w → KeepsKind form (form_at node.number.0 w.nodes) → AddsNone w node.number.0 (shown [] form) → Stands (St.node_at g.new.store) (Q.events g.new.queue) (St.stands g.new.store) g.new.marks (put_form node.number.0 form w) }
-    ensures falls { Falls (St.node_at g.old.store) (St.node_at g.new.store) g.old.marks g.new.marks }
+    requires kept { IsKept (St.node_at g.old.store) (St.is_bare g.old.store)
+        (Q.events g.old.queue) (St.slots g.old.store) (Q.size g.old.queue) g.old.marks }
+    ensures kept { IsKept (St.node_at g.new.store) (St.is_bare g.new.store) (Q.events g.new.queue)
+        (St.slots g.new.store) (Q.size g.new.queue) g.new.marks }
+    ensures stands { (w : World)
+        → Stands (St.node_at g.old.store) (Q.events g.old.queue) (St.stands g.old.store)
+        g.old.marks w
+        → KeepsKind form (form_at node.number.0 w.nodes)
+        → AddsNone w node.number.0 (shown [] form)
+        → Stands (St.node_at g.new.store) (Q.events g.new.queue) (St.stands g.new.store)
+        g.new.marks (put_form node.number.0 form w) }
+    ensures falls { Falls (St.node_at g.old.store) (St.node_at g.new.store) g.old.marks
+        g.new.marks }
 {
     let Some(slot) = find(g, node) else {
         return;

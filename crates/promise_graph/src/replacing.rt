@@ -55,7 +55,8 @@ fn replaced_stage(stage: &Stage, old: u64, new: Link) -> Stage
 
 // The same form with the tree new in place of old; a Then stays under its Chain, and Sides under their Race or Join.
 fn replaced_form(form: &Form, old: u64, new: Link) -> Form
-    ensures { (branches : List ℕ) → shown branches result ≡ renamed_form old new.number.0 (shown branches form.now) }
+    ensures { (branches : List ℕ)
+        → shown branches result ≡ renamed_form old new.number.0 (shown branches form.now) }
 {
     match form {
         Form::Then { value, error, tree } => Form::Then {
@@ -103,16 +104,26 @@ fn replace_under<St: Store + Drop, Q: Queue + Drop>(
     old: u64,
     new: Link,
 )
-    requires kept { IsKept (St.node_at g.old.store) (St.is_bare g.old.store) (Q.events g.old.queue) (St.slots g.old.store) (Q.size g.old.queue) g.old.marks }
+    requires kept { IsKept (St.node_at g.old.store) (St.is_bare g.old.store)
+        (Q.events g.old.queue) (St.slots g.old.store) (Q.size g.old.queue) g.old.marks }
     requires root { is_taken g.old.marks new.number.0 ≡ false }
     requires built { new.number.0 < g.old.marks.next }
     requires live { number_at (St.node_at g.old.store) owner.slot.0 ≡ Some owner.number.0 }
     requires form { IsReplaced (St.node_at g.old.store owner.slot.0) old new.number.0 form }
-    ensures kept { IsKept (St.node_at g.new.store) (St.is_bare g.new.store) (Q.events g.new.queue) (St.slots g.new.store) (Q.size g.new.queue) g.new.marks }
-    ensures stands { (w : World) → Stands (St.node_at g.old.store) (Q.events g.old.queue) (St.stands g.old.store) g.old.marks w → IsLive w old → SeesOwner w.nodes (Some owner) (owner_of old w.nodes) → Stands (St.node_at g.new.store) (Q.events g.new.queue) (St.stands g.new.store) g.new.marks (tree_replaced old new.number.0 w) }
+    ensures kept { IsKept (St.node_at g.new.store) (St.is_bare g.new.store) (Q.events g.new.queue)
+        (St.slots g.new.store) (Q.size g.new.queue) g.new.marks }
+    ensures stands { (w : World)
+        → Stands (St.node_at g.old.store) (Q.events g.old.queue) (St.stands g.old.store)
+        g.old.marks w
+        → IsLive w old
+        → SeesOwner w.nodes (Some owner) (owner_of old w.nodes)
+        → Stands (St.node_at g.new.store) (Q.events g.new.queue) (St.stands g.new.store)
+        g.new.marks (tree_replaced old new.number.0 w) }
     ensures taken { RisesIn (new.number.0 ∷ []) (is_taken g.old.marks) (is_taken g.new.marks) }
-    ensures listed { OnlyFalls (is_listed (St.node_at g.old.store) g.old.marks) (is_listed (St.node_at g.new.store) g.new.marks) }
-    ensures plain { OnlyRises (is_plain (St.node_at g.old.store) g.old.marks) (is_plain (St.node_at g.new.store) g.new.marks) }
+    ensures listed { OnlyFalls (is_listed (St.node_at g.old.store) g.old.marks)
+        (is_listed (St.node_at g.new.store) g.new.marks) }
+    ensures plain { OnlyRises (is_plain (St.node_at g.old.store) g.old.marks)
+        (is_plain (St.node_at g.new.store) g.new.marks) }
     ensures next { g.new.marks.next ≡ g.old.marks.next }
     ensures slots { g.new.marks.slots ≡ g.old.marks.slots }
 {
@@ -126,15 +137,25 @@ pub(crate) fn replace<St: Store + Drop, Q: Queue + Drop>(
     old: Link,
     new: Link,
 )
-    requires kept { IsKept (St.node_at g.old.store) (St.is_bare g.old.store) (Q.events g.old.queue) (St.slots g.old.store) (Q.size g.old.queue) g.old.marks }
+    requires kept { IsKept (St.node_at g.old.store) (St.is_bare g.old.store)
+        (Q.events g.old.queue) (St.slots g.old.store) (Q.size g.old.queue) g.old.marks }
     requires root { is_taken g.old.marks new.number.0 ≡ false }
     requires built { new.number.0 < g.old.marks.next }
-    ensures kept { IsKept (St.node_at g.new.store) (St.is_bare g.new.store) (Q.events g.new.queue) (St.slots g.new.store) (Q.size g.new.queue) g.new.marks }
-    ensures stands { (w : World) → Stands (St.node_at g.old.store) (Q.events g.old.queue) (St.stands g.old.store) g.old.marks w → IsLive w old.number.0 → Stands (St.node_at g.new.store) (Q.events g.new.queue) (St.stands g.new.store) g.new.marks (tree_replaced old.number.0 new.number.0 w) }
-    ensures root { is_taken g.old.marks old.number.0 ≡ false → OnlyFalls (is_taken g.old.marks) (is_taken g.new.marks) }
+    ensures kept { IsKept (St.node_at g.new.store) (St.is_bare g.new.store) (Q.events g.new.queue)
+        (St.slots g.new.store) (Q.size g.new.queue) g.new.marks }
+    ensures stands { (w : World)
+        → Stands (St.node_at g.old.store) (Q.events g.old.queue) (St.stands g.old.store)
+        g.old.marks w
+        → IsLive w old.number.0
+        → Stands (St.node_at g.new.store) (Q.events g.new.queue) (St.stands g.new.store)
+        g.new.marks (tree_replaced old.number.0 new.number.0 w) }
+    ensures root { is_taken g.old.marks old.number.0 ≡ false
+        → OnlyFalls (is_taken g.old.marks) (is_taken g.new.marks) }
     ensures taken { RisesIn (new.number.0 ∷ []) (is_taken g.old.marks) (is_taken g.new.marks) }
-    ensures listed { OnlyFalls (is_listed (St.node_at g.old.store) g.old.marks) (is_listed (St.node_at g.new.store) g.new.marks) }
-    ensures plain { OnlyRises (is_plain (St.node_at g.old.store) g.old.marks) (is_plain (St.node_at g.new.store) g.new.marks) }
+    ensures listed { OnlyFalls (is_listed (St.node_at g.old.store) g.old.marks)
+        (is_listed (St.node_at g.new.store) g.new.marks) }
+    ensures plain { OnlyRises (is_plain (St.node_at g.old.store) g.old.marks)
+        (is_plain (St.node_at g.new.store) g.new.marks) }
     ensures next { g.new.marks.next ≡ g.old.marks.next }
     ensures slots { g.new.marks.slots ≡ g.old.marks.slots }
 {

@@ -36,7 +36,10 @@ fn may_listen(form: &Form) -> bool
 
 // Whether a node that is live has an event.
 fn is_listening<N: Nodes>(nodes: &N, node: Link) -> bool
-    ensures { (w : World) (form : Seen) → N.stands nodes.now w → form_at node.number.0 w.nodes ≡ Some form → result ≡ has_event form }
+    ensures { (w : World) (form : Seen)
+        → N.stands nodes.now w
+        → form_at node.number.0 w.nodes ≡ Some form
+        → result ≡ has_event form }
 {
     match nodes.form(node) {
         Some(form) => may_listen(form),
@@ -45,7 +48,9 @@ fn is_listening<N: Nodes>(nodes: &N, node: Link) -> bool
 }
 
 fn awaited_listener<N: Nodes>(nodes: &N, root: Link) -> Option<Link>
-    ensures listener { (w : World) → N.stands nodes.now w → root_listener w.awaited root.number.0 ≡ link_number result }
+    ensures listener { (w : World)
+        → N.stands nodes.now w
+        → root_listener w.awaited root.number.0 ≡ link_number result }
     ensures event { (w : World) → IsListener w (link_number result) }
 {
     match nodes.awaited() {
@@ -55,8 +60,14 @@ fn awaited_listener<N: Nodes>(nodes: &N, root: Link) -> Option<Link>
 }
 
 fn look_above<N: Nodes>(nodes: &N, node: Link) -> Above
-    ensures above { (w : World) → N.stands nodes.now w → IsLive w node.number.0 → IsAbove result w node.number.0 }
-    ensures event { (w : World) → N.stands nodes.now w → IsLive w node.number.0 → IsFoundListener result w }
+    ensures above { (w : World)
+        → N.stands nodes.now w
+        → IsLive w node.number.0
+        → IsAbove result w node.number.0 }
+    ensures event { (w : World)
+        → N.stands nodes.now w
+        → IsLive w node.number.0
+        → IsFoundListener result w }
 {
     match nodes.owner(node) {
         None => Above::Found(awaited_listener(nodes, node)),
@@ -72,8 +83,14 @@ fn look_above<N: Nodes>(nodes: &N, node: Link) -> Above
 
 /// The nearest node with an event above a live node, or the wait, or nobody.
 pub fn listener<N: Nodes>(nodes: &N, node: Link) -> Option<Link>
-    ensures listener { (w : World) → N.stands nodes.now w → IsLive w node.number.0 → listener node.number.0 w ≡ link_number result }
-    ensures event { (w : World) → N.stands nodes.now w → IsLive w node.number.0 → IsListener w (link_number result) }
+    ensures listener { (w : World)
+        → N.stands nodes.now w
+        → IsLive w node.number.0
+        → listener node.number.0 w ≡ link_number result }
+    ensures event { (w : World)
+        → N.stands nodes.now w
+        → IsLive w node.number.0
+        → IsListener w (link_number result) }
 {
     let mut at = node;
     let mut left = u64::from(nodes.slots()) + 1;

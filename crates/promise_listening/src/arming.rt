@@ -17,7 +17,10 @@ use promise_nodes::{Nodes, Way};
 
 /// Who listens is armed, where there is somebody.
 pub fn arm<N: Nodes>(nodes: &mut N, way: Way, by: Option<Link>)
-    ensures stands { (w : World) → N.stands nodes.old w → IsListener w (link_number by) → N.stands nodes.new (arm_listener (way_of way) (link_number by) w) }
+    ensures stands { (w : World)
+        → N.stands nodes.old w
+        → IsListener w (link_number by)
+        → N.stands nodes.new (arm_listener (way_of way) (link_number by) w) }
     ensures taken { OnlyFalls (N.is_taken nodes.old) (N.is_taken nodes.new) }
     ensures listed { OnlyFalls (N.is_listed nodes.old) (N.is_listed nodes.new) }
     ensures plain { OnlyRises (N.is_plain nodes.old) (N.is_plain nodes.new) }
@@ -31,7 +34,10 @@ pub fn arm<N: Nodes>(nodes: &mut N, way: Way, by: Option<Link>)
 
 /// The tree of a live node became ready: who listens to it is armed.
 pub fn announce<N: Nodes>(nodes: &mut N, way: Way, node: Link)
-    ensures stands { (w : World) → N.stands nodes.old w → IsLive w node.number.0 → N.stands nodes.new (announced (way_of way) node.number.0 w) }
+    ensures stands { (w : World)
+        → N.stands nodes.old w
+        → IsLive w node.number.0
+        → N.stands nodes.new (announced (way_of way) node.number.0 w) }
     ensures taken { OnlyFalls (N.is_taken nodes.old) (N.is_taken nodes.new) }
     ensures listed { OnlyFalls (N.is_listed nodes.old) (N.is_listed nodes.new) }
     ensures plain { OnlyRises (N.is_plain nodes.old) (N.is_plain nodes.new) }
@@ -54,7 +60,9 @@ fn way_when_ready(is_last: bool) -> Way
 
 /// The tree of a root got a listener: where it is ready, it arms it.
 pub fn listen<N: Nodes>(nodes: &mut N, root: Link)
-    ensures stands { (w : World) → N.stands nodes.old w → N.stands nodes.new (listened root.number.0 w) }
+    ensures stands { (w : World)
+        → N.stands nodes.old w
+        → N.stands nodes.new (listened root.number.0 w) }
     ensures taken { OnlyFalls (N.is_taken nodes.old) (N.is_taken nodes.new) }
     ensures listed { OnlyFalls (N.is_listed nodes.old) (N.is_listed nodes.new) }
     ensures plain { OnlyRises (N.is_plain nodes.old) (N.is_plain nodes.new) }
@@ -69,7 +77,9 @@ pub fn listen<N: Nodes>(nodes: &mut N, root: Link)
 }
 
 fn is_waiting<N: Nodes>(nodes: &N, cell: Link) -> bool
-    ensures { (w : World) → N.stands nodes.now w → result ≡ waits_at (form_at cell.number.0 w.nodes) }
+    ensures { (w : World)
+        → N.stands nodes.now w
+        → result ≡ waits_at (form_at cell.number.0 w.nodes) }
 {
     match nodes.form(cell) {
         Some(Form::Cell { outcome: None }) => true,
@@ -79,7 +89,9 @@ fn is_waiting<N: Nodes>(nodes: &N, cell: Link) -> bool
 
 /// A cell that waits gets its outcome, and who listens to it is armed; a cell that doesn't wait stays as it is.
 pub fn settle<N: Nodes>(nodes: &mut N, way: Way, cell: Link, outcome: Outcome)
-    ensures stands { (w : World) → N.stands nodes.old w → N.stands nodes.new (settled (way_of way) cell.number.0 outcome w) }
+    ensures stands { (w : World)
+        → N.stands nodes.old w
+        → N.stands nodes.new (settled (way_of way) cell.number.0 outcome w) }
     ensures taken { OnlyFalls (N.is_taken nodes.old) (N.is_taken nodes.new) }
     ensures listed { OnlyFalls (N.is_listed nodes.old) (N.is_listed nodes.new) }
     ensures plain { OnlyRises (N.is_plain nodes.old) (N.is_plain nodes.new) }
@@ -96,7 +108,8 @@ pub fn settle<N: Nodes>(nodes: &mut N, way: Way, cell: Link, outcome: Outcome)
 
 // The form with the outcome in place of its tree.
 fn kept_of(form: &Form, outcome: Outcome) -> Form
-    ensures { (branches : List ℕ) → shown branches result ≡ kept_form outcome (shown branches form.now) }
+    ensures { (branches : List ℕ)
+        → shown branches result ≡ kept_form outcome (shown branches form.now) }
 {
     match form {
         Form::Eager { .. } => Form::Eager {
@@ -119,7 +132,9 @@ fn kept_of(form: &Form, outcome: Outcome) -> Form
 
 /// An eager promise, a wrapped one, a hub or a Side of a fast join keeps its outcome in place of its tree.
 pub fn keep<N: Nodes>(nodes: &mut N, node: Link, outcome: Outcome)
-    ensures stands { (w : World) → N.stands nodes.old w → N.stands nodes.new (keeps node.number.0 outcome w) }
+    ensures stands { (w : World)
+        → N.stands nodes.old w
+        → N.stands nodes.new (keeps node.number.0 outcome w) }
     ensures taken { OnlyFalls (N.is_taken nodes.old) (N.is_taken nodes.new) }
     ensures listed { OnlyFalls (N.is_listed nodes.old) (N.is_listed nodes.new) }
     ensures plain { OnlyRises (N.is_plain nodes.old) (N.is_plain nodes.new) }

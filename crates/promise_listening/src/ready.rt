@@ -38,7 +38,9 @@ fn is_kept(content: &Content) -> bool
 }
 
 fn is_hub_ready<N: Nodes>(nodes: &N, hub: Link) -> bool
-    ensures { (w : World) → N.stands nodes.now w → result ≡ hub_ready (form_at hub.number.0 w.nodes) }
+    ensures { (w : World)
+        → N.stands nodes.now w
+        → result ≡ hub_ready (form_at hub.number.0 w.nodes) }
 {
     match nodes.form(hub) {
         Some(Form::Hub { content, .. }) => is_kept(content),
@@ -69,7 +71,9 @@ fn side_waits<N: Nodes>(nodes: &N, side: Link) -> bool
 }
 
 fn side_keeps_exception<N: Nodes>(nodes: &N, side: Link) -> bool
-    ensures { (w : World) → N.stands nodes.now w → result ≡ keeps_exception (form_at side.number.0 w.nodes) }
+    ensures { (w : World)
+        → N.stands nodes.now w
+        → result ≡ keeps_exception (form_at side.number.0 w.nodes) }
 {
     match nodes.form(side) {
         Some(
@@ -92,7 +96,9 @@ fn next_side(side: Link) -> Link
 }
 
 fn some_waits<N: Nodes>(nodes: &N, first: Link, count: u8) -> bool
-    ensures { (w : World) → N.stands nodes.now w → result ≡ list_any (λ side. waits (form_at side w.nodes)) (run_from count first.number.0) }
+    ensures { (w : World)
+        → N.stands nodes.now w
+        → result ≡ list_any (λ side. waits (form_at side w.nodes)) (run_from count first.number.0) }
 {
     let mut side = first;
     let mut left = count;
@@ -107,7 +113,10 @@ fn some_waits<N: Nodes>(nodes: &N, first: Link, count: u8) -> bool
 }
 
 fn some_keeps_exception<N: Nodes>(nodes: &N, first: Link, count: u8) -> bool
-    ensures { (w : World) → N.stands nodes.now w → result ≡ list_any (λ side. keeps_exception (form_at side w.nodes)) (run_from count first.number.0) }
+    ensures { (w : World)
+        → N.stands nodes.now w
+        → result ≡ list_any (λ side. keeps_exception (form_at side w.nodes))
+        (run_from count first.number.0) }
 {
     let mut side = first;
     let mut left = count;
@@ -123,13 +132,17 @@ fn some_keeps_exception<N: Nodes>(nodes: &N, first: Link, count: u8) -> bool
 
 /// Whether a join of these Sides is ready.
 pub fn is_join_ready<N: Nodes>(nodes: &N, is_fast: bool, first: Link, count: u8) -> bool
-    ensures { (w : World) → N.stands nodes.now w → result ≡ join_ready is_fast (run_from count first.number.0) w.nodes }
+    ensures { (w : World)
+        → N.stands nodes.now w
+        → result ≡ join_ready is_fast (run_from count first.number.0) w.nodes }
 {
     (is_fast && some_keeps_exception(nodes, first, count)) || !some_waits(nodes, first, count)
 }
 
 fn known_of<N: Nodes>(nodes: &N, form: &Form) -> Known
-    ensures { (w : World) (branches : List ℕ) → N.stands nodes.now w → IsReadiness result w.nodes (Some (shown branches form.now)) }
+    ensures { (w : World) (branches : List ℕ)
+        → N.stands nodes.now w
+        → IsReadiness result w.nodes (Some (shown branches form.now)) }
 {
     match form {
         Form::Ready { .. } | Form::Later | Form::Last => Known::Now(true),
@@ -150,7 +163,9 @@ fn known_of<N: Nodes>(nodes: &N, form: &Form) -> Known
 }
 
 fn known_at<N: Nodes>(nodes: &N, node: Link) -> Known
-    ensures { (w : World) → N.stands nodes.now w → IsReadiness result w.nodes (form_at node.number.0 w.nodes) }
+    ensures { (w : World)
+        → N.stands nodes.now w
+        → IsReadiness result w.nodes (form_at node.number.0 w.nodes) }
 {
     match nodes.form(node) {
         Some(form) => known_of(nodes, form),
@@ -160,7 +175,9 @@ fn known_at<N: Nodes>(nodes: &N, node: Link) -> Known
 
 /// Whether the tree of a root is ready.
 pub fn is_ready<N: Nodes>(nodes: &N, root: Link) -> bool
-    ensures { (w : World) → N.stands nodes.now w → result ≡ ready (N.slots nodes.now + 1) w.nodes root.number.0 }
+    ensures { (w : World)
+        → N.stands nodes.now w
+        → result ≡ ready (N.slots nodes.now + 1) w.nodes root.number.0 }
 {
     let mut at = root;
     let mut left = u64::from(nodes.slots()) + 1;
@@ -189,7 +206,9 @@ fn last_of(form: &Form) -> Known
 }
 
 fn last_at<N: Nodes>(nodes: &N, node: Link) -> Known
-    ensures { (w : World) → N.stands nodes.now w → IsLastness result (form_at node.number.0 w.nodes) }
+    ensures { (w : World)
+        → N.stands nodes.now w
+        → IsLastness result (form_at node.number.0 w.nodes) }
 {
     match nodes.form(node) {
         Some(form) => last_of(form),
@@ -199,7 +218,9 @@ fn last_at<N: Nodes>(nodes: &N, node: Link) -> Known
 
 /// Whether the leaf below a root is one whose event comes after all others.
 pub fn is_last<N: Nodes>(nodes: &N, root: Link) -> bool
-    ensures { (w : World) → N.stands nodes.now w → result ≡ is_last (N.slots nodes.now + 1) w.nodes root.number.0 }
+    ensures { (w : World)
+        → N.stands nodes.now w
+        → result ≡ is_last (N.slots nodes.now + 1) w.nodes root.number.0 }
 {
     let mut at = root;
     let mut left = u64::from(nodes.slots()) + 1;

@@ -94,13 +94,19 @@ pub trait Nodes {
 
     /// The form of a live node; none where it isn't live.
     fn form(&self, node: Link) -> Option<&Form>
-        ensures form { (w : World) → stands self.now w → Sees (option_copied result) (form_at node.number.0 w.nodes) }
+        ensures form { (w : World)
+            → stands self.now w
+            → Sees (option_copied result) (form_at node.number.0 w.nodes) }
         ensures listed { is_listed self.now node.number.0 ≡ true → IsBranch (option_copied result) }
-        ensures plain { ShowsPlain (option_copied result) → is_plain self.now node.number.0 ≡ true };
+        ensures plain { ShowsPlain (option_copied result)
+            → is_plain self.now node.number.0 ≡ true };
 
     /// The node that owns a live one.
     fn owner(&self, node: Link) -> Option<Link>
-        ensures { (w : World) → stands self.now w → IsLive w node.number.0 → SeesOwner w.nodes result (owner_of node.number.0 w.nodes) };
+        ensures { (w : World)
+            → stands self.now w
+            → IsLive w node.number.0
+            → SeesOwner w.nodes result (owner_of node.number.0 w.nodes) };
 
     /// The node whose event fires.
     fn firing(&self) -> Option<Link>
@@ -114,7 +120,9 @@ pub trait Nodes {
     fn fits(&self, rows: &[NodeRow]) -> bool
         requires few { length rows.now ≤ 16 }
         ensures room { result ≡ room self.now (rows_seen rows.now) }
-        ensures ruled { (w : World) → stands self.now w → result ≡ rule (slots self.now) w.spots (rows_seen rows.now) };
+        ensures ruled { (w : World)
+            → stands self.now w
+            → result ≡ rule (slots self.now) w.spots (rows_seen rows.now) };
 
     /// A node with the next number, before another one or anew. It takes the trees that its form has.
     fn build(&mut self, before: Option<Link>, form: Form) -> Link
@@ -125,8 +133,14 @@ pub trait Nodes {
         requires numbers { next self.old < 2 ^ 63 + 9 }
         ensures number { result.number.0 ≡ next self.old }
         ensures next { next self.new ≡ next self.old + 1 }
-        ensures rest { (more : List RowSeen) (count : ℕ) → 0 < count → AreRowsBuilt (next self.old) more → IsTrue (room self.old (row (link_number before) count ∷ more)) → IsTrue (room self.new (rows_left (next self.old) count more)) }
-        ensures stands { (w : World) → stands self.old w → stands self.new (built (link_number before) (shown [] form) w) }
+        ensures rest { (more : List RowSeen) (count : ℕ)
+            → 0 < count
+            → AreRowsBuilt (next self.old) more
+            → IsTrue (room self.old (row (link_number before) count ∷ more))
+            → IsTrue (room self.new (rows_left (next self.old) count more)) }
+        ensures stands { (w : World)
+            → stands self.old w
+            → stands self.new (built (link_number before) (shown [] form) w) }
         ensures anew { (w : World) → stands self.old w → form_at (next self.old) w.nodes ≡ None }
         ensures root { is_taken self.new result.number.0 ≡ false }
         ensures unlisted { is_listed self.new result.number.0 ≡ false }
@@ -137,7 +151,11 @@ pub trait Nodes {
 
     /// A node has this form now, where it is live; it has no new tree. A hub keeps its branches.
     fn put(&mut self, node: Link, form: Form)
-        ensures stands { (w : World) → stands self.old w → KeepsKind form (form_at node.number.0 w.nodes) → AddsNone w node.number.0 (shown [] form) → stands self.new (put_form node.number.0 form w) }
+        ensures stands { (w : World)
+            → stands self.old w
+            → KeepsKind form (form_at node.number.0 w.nodes)
+            → AddsNone w node.number.0 (shown [] form)
+            → stands self.new (put_form node.number.0 form w) }
         ensures taken { OnlyFalls (is_taken self.old) (is_taken self.new) }
         ensures listed { OnlyFalls (is_listed self.old) (is_listed self.new) }
         ensures plain { OnlyRises (is_plain self.old) (is_plain self.new) }
@@ -147,7 +165,9 @@ pub trait Nodes {
     /// A node goes, with its event.
     fn drop_node(&mut self, node: Link)
         requires unlisted { is_listed self.old node.number.0 ≡ false }
-        ensures stands { (w : World) → stands self.old w → stands self.new (gone_world node.number.0 w) }
+        ensures stands { (w : World)
+            → stands self.old w
+            → stands self.new (gone_world node.number.0 w) }
         ensures taken { OnlyFalls (is_taken self.old) (is_taken self.new) }
         ensures listed { OnlyFalls (is_listed self.old) (is_listed self.new) }
         ensures plain { OnlyRises (is_plain self.old) (is_plain self.new) }
@@ -157,7 +177,11 @@ pub trait Nodes {
     /// A branch is its hub's newest.
     fn join_hub(&mut self, branch: Link, hub: Link)
         requires unlisted { is_listed self.old branch.number.0 ≡ false }
-        ensures stands { (w : World) → stands self.old w → form_at branch.number.0 w.nodes ≡ Some (Branch hub.number.0) → stands self.new (with_branch_in branch.number.0 hub.number.0 (form_at hub.number.0 w.nodes) w) }
+        ensures stands { (w : World)
+            → stands self.old w
+            → form_at branch.number.0 w.nodes ≡ Some (Branch hub.number.0)
+            → stands self.new
+            (with_branch_in branch.number.0 hub.number.0 (form_at hub.number.0 w.nodes) w) }
         ensures taken { OnlyFalls (is_taken self.old) (is_taken self.new) }
         ensures listed { RisesIn (branch.number.0 ∷ []) (is_listed self.old) (is_listed self.new) }
         ensures plain { OnlyRises (is_plain self.old) (is_plain self.new) }
@@ -166,8 +190,15 @@ pub trait Nodes {
 
     /// A branch leaves its hub; whether the hub has neither name nor branch now.
     fn leave_hub(&mut self, branch: Link, hub: Link) -> bool
-        ensures stands { (w : World) → stands self.old w → form_at branch.number.0 w.nodes ≡ Some (Branch hub.number.0) → stands self.new (without_branch branch.number.0 hub.number.0 w) }
-        ensures last { (w : World) → stands self.old w → form_at branch.number.0 w.nodes ≡ Some (Branch hub.number.0) → result ≡ is_unreferenced (form_at hub.number.0 (without_branch branch.number.0 hub.number.0 w).nodes) }
+        ensures stands { (w : World)
+            → stands self.old w
+            → form_at branch.number.0 w.nodes ≡ Some (Branch hub.number.0)
+            → stands self.new (without_branch branch.number.0 hub.number.0 w) }
+        ensures last { (w : World)
+            → stands self.old w
+            → form_at branch.number.0 w.nodes ≡ Some (Branch hub.number.0)
+            → result ≡ is_unreferenced
+            (form_at hub.number.0 (without_branch branch.number.0 hub.number.0 w).nodes) }
         ensures unlisted { is_listed self.new branch.number.0 ≡ false }
         ensures taken { OnlyFalls (is_taken self.old) (is_taken self.new) }
         ensures listed { OnlyFalls (is_listed self.old) (is_listed self.new) }
@@ -177,22 +208,34 @@ pub trait Nodes {
 
     /// Whether a hub has neither name nor branch.
     fn is_unreferenced(&self, hub: Link) -> bool
-        ensures { (w : World) → stands self.now w → result ≡ is_unreferenced (form_at hub.number.0 w.nodes) };
+        ensures { (w : World)
+            → stands self.now w
+            → result ≡ is_unreferenced (form_at hub.number.0 w.nodes) };
 
     /// The oldest branch of a hub.
     fn first_branch(&self, hub: Link) -> Option<Link>
-        ensures { (w : World) → stands self.now w → link_number result ≡ first_of (branches_of (form_at hub.number.0 w.nodes)) };
+        ensures { (w : World)
+            → stands self.now w
+            → link_number result ≡ first_of (branches_of (form_at hub.number.0 w.nodes)) };
 
     /// The branch that was made after this one.
     fn next_branch(&self, branch: Link) -> Option<Link>
-        ensures { (w : World) (hub : ℕ) (front back : List ℕ) → stands self.now w → branches_of (form_at hub w.nodes) ≡ front ++ branch.number.0 ∷ back → link_number result ≡ first_of back };
+        ensures { (w : World) (hub : ℕ) (front back : List ℕ)
+            → stands self.now w
+            → branches_of (form_at hub w.nodes) ≡ front ++ branch.number.0 ∷ back
+            → link_number result ≡ first_of back };
 
     /// The tree new takes the place of old under the owner of old, where there is one.
     fn replace(&mut self, old: Link, new: Link)
         requires root { is_taken self.old new.number.0 ≡ false }
         requires built { new.number.0 < next self.old }
-        ensures stands { (w : World) → stands self.old w → IsLive w old.number.0 → IsReplaceable w old.number.0 new.number.0 → stands self.new (tree_replaced old.number.0 new.number.0 w) }
-        ensures root { is_taken self.old old.number.0 ≡ false → OnlyFalls (is_taken self.old) (is_taken self.new) }
+        ensures stands { (w : World)
+            → stands self.old w
+            → IsLive w old.number.0
+            → IsReplaceable w old.number.0 new.number.0
+            → stands self.new (tree_replaced old.number.0 new.number.0 w) }
+        ensures root { is_taken self.old old.number.0 ≡ false
+            → OnlyFalls (is_taken self.old) (is_taken self.new) }
         ensures taken { RisesIn (new.number.0 ∷ []) (is_taken self.old) (is_taken self.new) }
         ensures listed { OnlyFalls (is_listed self.old) (is_listed self.new) }
         ensures plain { OnlyRises (is_plain self.old) (is_plain self.new) }
@@ -201,7 +244,11 @@ pub trait Nodes {
 
     /// A live node is the newest task of the loop's own set. A task that goes leaves that set.
     fn enlist(&mut self, task: Link)
-        ensures stands { (w : World) → stands self.old w → IsLive w task.number.0 → is_in task.number.0 w.detached ≡ false → stands self.new (with_detached task.number.0 w) }
+        ensures stands { (w : World)
+            → stands self.old w
+            → IsLive w task.number.0
+            → is_in task.number.0 w.detached ≡ false
+            → stands self.new (with_detached task.number.0 w) }
         ensures taken { OnlyFalls (is_taken self.old) (is_taken self.new) }
         ensures listed { OnlyFalls (is_listed self.old) (is_listed self.new) }
         ensures plain { OnlyRises (is_plain self.old) (is_plain self.new) }
@@ -210,7 +257,9 @@ pub trait Nodes {
 
     /// A node leaves the loop's own set, if it is there.
     fn delist(&mut self, task: Link)
-        ensures stands { (w : World) → stands self.old w → stands self.new (without_detached task.number.0 w) }
+        ensures stands { (w : World)
+            → stands self.old w
+            → stands self.new (without_detached task.number.0 w) }
         ensures taken { OnlyFalls (is_taken self.old) (is_taken self.new) }
         ensures listed { OnlyFalls (is_listed self.old) (is_listed self.new) }
         ensures plain { OnlyRises (is_plain self.old) (is_plain self.new) }
@@ -223,11 +272,16 @@ pub trait Nodes {
 
     /// The oldest live hub.
     fn oldest_hub(&self) -> Option<Link>
-        ensures { (w : World) → stands self.now w → link_number result ≡ first_of (hubs_of w.nodes) };
+        ensures { (w : World)
+            → stands self.now w
+            → link_number result ≡ first_of (hubs_of w.nodes) };
 
     /// The event of a live node, or of the wait, is armed.
     fn arm(&mut self, way: Way, node: Link)
-        ensures stands { (w : World) → stands self.old w → IsEvent w node.number.0 → stands self.new (arm_listener (way_of way) (Some node.number.0) w) }
+        ensures stands { (w : World)
+            → stands self.old w
+            → IsEvent w node.number.0
+            → stands self.new (arm_listener (way_of way) (Some node.number.0) w) }
         ensures taken { OnlyFalls (is_taken self.old) (is_taken self.new) }
         ensures listed { OnlyFalls (is_listed self.old) (is_listed self.new) }
         ensures plain { OnlyRises (is_plain self.old) (is_plain self.new) }
@@ -236,7 +290,9 @@ pub trait Nodes {
 
     /// An event leaves the queue, if it is there.
     fn disarm(&mut self, node: Link)
-        ensures stands { (w : World) → stands self.old w → stands self.new (disarmed_node node.number.0 w) }
+        ensures stands { (w : World)
+            → stands self.old w
+            → stands self.new (disarmed_node node.number.0 w) }
         ensures taken { OnlyFalls (is_taken self.old) (is_taken self.new) }
         ensures listed { OnlyFalls (is_listed self.old) (is_listed self.new) }
         ensures plain { OnlyRises (is_plain self.old) (is_plain self.new) }
@@ -264,7 +320,9 @@ pub trait Nodes {
 
     /// This event fires, or none.
     fn set_firing(&mut self, firing: Option<Link>)
-        ensures stands { (w : World) → stands self.old w → stands self.new (record w { firing = link_number firing }) }
+        ensures stands { (w : World)
+            → stands self.old w
+            → stands self.new (record w { firing = link_number firing }) }
         ensures taken { OnlyFalls (is_taken self.old) (is_taken self.new) }
         ensures listed { OnlyFalls (is_listed self.old) (is_listed self.new) }
         ensures plain { OnlyRises (is_plain self.old) (is_plain self.new) }
@@ -273,7 +331,10 @@ pub trait Nodes {
 
     /// A wait awaits this root, or none.
     fn set_awaited(&mut self, awaited: Option<Link>)
-        ensures stands { (w : World) (a : Option Awaited) → stands self.old w → awaited_root a ≡ link_number awaited → stands self.new (record w { awaited = a }) }
+        ensures stands { (w : World) (a : Option Awaited)
+            → stands self.old w
+            → awaited_root a ≡ link_number awaited
+            → stands self.new (record w { awaited = a }) }
         ensures taken { OnlyFalls (is_taken self.old) (is_taken self.new) }
         ensures listed { OnlyFalls (is_listed self.old) (is_listed self.new) }
         ensures plain { OnlyRises (is_plain self.old) (is_plain self.new) }
@@ -293,7 +354,10 @@ pub trait Nodes {
 
     /// A live node has this mark in place of the one that it had.
     fn mark(&mut self, node: Link, mark: Mark)
-        ensures marks { (w : World) → stands self.old w → IsLive w node.number.0 → IsMarked node.number.0 mark (marks self.old) (marks self.new) }
+        ensures marks { (w : World)
+            → stands self.old w
+            → IsLive w node.number.0
+            → IsMarked node.number.0 mark (marks self.old) (marks self.new) }
         ensures stands { (w : World) → stands self.old w → stands self.new w }
         ensures taken { Same (is_taken self.old) (is_taken self.new) }
         ensures listed { Same (is_listed self.old) (is_listed self.new) }
@@ -307,28 +371,47 @@ pub trait Nodes {
         ensures { result ≡ marks self.now node.number.0 };
 
     /// Names and lists don't matter.
-    ghost names_free: { (nodes : Self) (w v : World) → SameNodes w v → stands nodes w → stands nodes v };
+    ghost names_free: { (nodes : Self) (w v : World)
+        → SameNodes w v
+        → stands nodes w
+        → stands nodes v };
 
     /// A plain number is of no hub and no branch.
-    ghost plain_is: { (nodes : Self) (w : World) (n : ℕ) → stands nodes w → is_plain nodes n ≡ true → IsPlain (form_at n w.nodes) };
+    ghost plain_is: { (nodes : Self) (w : World) (n : ℕ)
+        → stands nodes w
+        → is_plain nodes n ≡ true
+        → IsPlain (form_at n w.nodes) };
 
     /// The tasks of the loop's own set were built.
-    ghost tasks_built: { (nodes : Self) (w : World) (n : ℕ) → stands nodes w → is_in n w.detached ≡ true → n < next nodes };
+    ghost tasks_built: { (nodes : Self) (w : World) (n : ℕ)
+        → stands nodes w
+        → is_in n w.detached ≡ true
+        → n < next nodes };
 
     /// No node stands twice.
     ghost once: { (nodes : Self) (w : World) → stands nodes w → AreOnce w.nodes };
 
     /// The hubs were built.
-    ghost hubs_built: { (nodes : Self) (w : World) (n : ℕ) → stands nodes w → is_in n (hubs_of w.nodes) ≡ true → n < next nodes };
+    ghost hubs_built: { (nodes : Self) (w : World) (n : ℕ)
+        → stands nodes w
+        → is_in n (hubs_of w.nodes) ≡ true
+        → n < next nodes };
 
     /// A hub has no more branches than there are slots.
-    ghost few_branches: { (nodes : Self) (w : World) (hub : ℕ) → stands nodes w → length (branches_of (form_at hub w.nodes)) ≤ slots nodes };
+    ghost few_branches: { (nodes : Self) (w : World) (hub : ℕ)
+        → stands nodes w
+        → length (branches_of (form_at hub w.nodes)) ≤ slots nodes };
 
     /// Rows may be left out.
-    ghost left_out: { (nodes : Self) (front : List RowSeen) (left : RowSeen) (back : List RowSeen) → IsTrue (room nodes (front ++ left ∷ back)) → IsTrue (room nodes (front ++ back)) };
+    ghost left_out: { (nodes : Self) (front : List RowSeen) (left : RowSeen) (back : List RowSeen)
+        → IsTrue (room nodes (front ++ left ∷ back))
+        → IsTrue (room nodes (front ++ back)) };
 
     /// A row of two may become a row of one.
-    ghost one_of_two: { (nodes : Self) (front : List RowSeen) (before : Option ℕ) (back : List RowSeen) → IsTrue (room nodes (front ++ row before 2 ∷ back)) → IsTrue (room nodes (front ++ row before 1 ∷ back)) };
+    ghost one_of_two: { (nodes : Self) (front : List RowSeen) (before : Option ℕ)
+        (back : List RowSeen)
+        → IsTrue (room nodes (front ++ row before 2 ∷ back))
+        → IsTrue (room nodes (front ++ row before 1 ∷ back)) };
 
     /// The next number of each world that it stands for.
     ghost next_is: { (nodes : Self) (w : World) → stands nodes w → w.next ≡ next nodes };

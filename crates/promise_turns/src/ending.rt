@@ -27,8 +27,13 @@ fn give<N: Nodes + Drop, M: Names + Drop, S: Steps>(
     steps: &mut S,
 )
     requires plain { N.is_plain over.old.nodes chain.number.0 ≡ true }
-    requires given { GivesRoot (M.roots over.old.names) (N.is_taken over.old.nodes) (N.next over.old.nodes) (Ok given) }
-    ensures does { Does (λ w. Both (N.stands over.old.nodes) (M.stands over.old.names) w × MayEnd chain.number.0 link.number.0 (given_of given) w) (Both (N.stands over.new.nodes) (M.stands over.new.names)) (chain_ended chain.number.0 link.number.0 (Some (given_of given))) (λ s. s) (S.told steps.old) (S.told steps.new) }
+    requires given { GivesRoot (M.roots over.old.names) (N.is_taken over.old.nodes)
+        (N.next over.old.nodes) (Ok given) }
+    ensures does { Does (λ w. Both (N.stands over.old.nodes) (M.stands over.old.names) w × MayEnd
+        chain.number.0 link.number.0 (given_of given) w)
+        (Both (N.stands over.new.nodes) (M.stands over.new.names))
+        (chain_ended chain.number.0 link.number.0 (Some (given_of given))) (λ s. s)
+        (S.told steps.old) (S.told steps.new) }
     ensures lacks { S.lacks steps.new ≡ S.lacks steps.old }
     ensures plain { OnlyRises (N.is_plain over.old.nodes) (N.is_plain over.new.nodes) }
     ensures slots { N.slots over.new.nodes ≡ N.slots over.old.nodes }
@@ -56,7 +61,10 @@ pub(crate) fn fire_chain<N: Nodes + Drop, M: Names + Drop, S: Steps>(
     steps: &mut S,
 )
     requires plain { N.is_plain over.old.nodes node.number.0 ≡ true }
-    ensures acts { Acts (Both (N.stands over.old.nodes) (M.stands over.old.names)) (Both (N.stands over.new.nodes) (M.stands over.new.names)) N.rule (From (Takes link) node.number.0) (fired node.number.0) (λ s. s) (S.told steps.old) (S.told steps.new) (S.lacks steps.old) (S.lacks steps.new) }
+    ensures acts { Acts (Both (N.stands over.old.nodes) (M.stands over.old.names))
+        (Both (N.stands over.new.nodes) (M.stands over.new.names)) N.rule
+        (From (Takes link) node.number.0) (fired node.number.0) (λ s. s) (S.told steps.old)
+        (S.told steps.new) (S.lacks steps.old) (S.lacks steps.new) }
     ensures plain { OnlyRises (N.is_plain over.old.nodes) (N.is_plain over.new.nodes) }
     ensures slots { N.slots over.new.nodes ≡ N.slots over.old.nodes }
     ensures over { M.over over.new.names ≡ M.over over.old.names }
@@ -76,7 +84,9 @@ fn finish<N: Nodes + Drop, M: Names + Drop, S: Steps>(
 )
     requires plain { N.is_plain over.old.nodes task.number.0 ≡ true }
     requires none_over { M.over over.old.names ≡ [] }
-    ensures does { EndsTask (Both (N.stands over.old.nodes) (M.stands over.old.names)) (Both (N.stands over.new.nodes) (M.stands over.new.names)) task.number.0 tree.number.0 (S.told steps.old) (S.told steps.new) }
+    ensures does { EndsTask (Both (N.stands over.old.nodes) (M.stands over.old.names))
+        (Both (N.stands over.new.nodes) (M.stands over.new.names)) task.number.0 tree.number.0
+        (S.told steps.old) (S.told steps.new) }
     ensures lacks { S.lacks steps.new ≡ S.lacks steps.old }
     ensures plain { OnlyRises (N.is_plain over.old.nodes) (N.is_plain over.new.nodes) }
     ensures slots { N.slots over.new.nodes ≡ N.slots over.old.nodes }
@@ -103,7 +113,10 @@ pub(crate) fn fire_task<N: Nodes + Drop, M: Names + Drop, S: Steps>(
 )
     requires plain { N.is_plain over.old.nodes node.number.0 ≡ true }
     requires none_over { M.over over.old.names ≡ [] }
-    ensures acts { Acts (Both (N.stands over.old.nodes) (M.stands over.old.names)) (Both (N.stands over.new.nodes) (M.stands over.new.names)) N.rule (From (Ends tree) node.number.0) (fired node.number.0) (λ s. s) (S.told steps.old) (S.told steps.new) (S.lacks steps.old) (S.lacks steps.new) }
+    ensures acts { Acts (Both (N.stands over.old.nodes) (M.stands over.old.names))
+        (Both (N.stands over.new.nodes) (M.stands over.new.names)) N.rule
+        (From (Ends tree) node.number.0) (fired node.number.0) (λ s. s) (S.told steps.old)
+        (S.told steps.new) (S.lacks steps.old) (S.lacks steps.new) }
     ensures plain { OnlyRises (N.is_plain over.old.nodes) (N.is_plain over.new.nodes) }
     ensures slots { N.slots over.new.nodes ≡ N.slots over.old.nodes }
     ensures over { M.over over.new.names ≡ M.over over.old.names }

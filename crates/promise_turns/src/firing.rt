@@ -22,7 +22,10 @@ fn fire_node<N: Nodes + Drop, M: Names + Drop, S: Steps>(
     steps: &mut S,
 )
     requires none_over { M.over over.old.names ≡ [] }
-    ensures acts { Acts (Both (N.stands over.old.nodes) (M.stands over.old.names)) (Both (N.stands over.new.nodes) (M.stands over.new.names)) N.rule (FromNode node.number.0) (fired node.number.0) (λ s. s) (S.told steps.old) (S.told steps.new) (S.lacks steps.old) (S.lacks steps.new) }
+    ensures acts { Acts (Both (N.stands over.old.nodes) (M.stands over.old.names))
+        (Both (N.stands over.new.nodes) (M.stands over.new.names)) N.rule (FromNode node.number.0)
+        (fired node.number.0) (λ s. s) (S.told steps.old) (S.told steps.new) (S.lacks steps.old)
+        (S.lacks steps.new) }
     ensures plain { OnlyRises (N.is_plain over.old.nodes) (N.is_plain over.new.nodes) }
     ensures slots { N.slots over.new.nodes ≡ N.slots over.old.nodes }
     ensures over { M.over over.new.names ≡ M.over over.old.names }
@@ -45,7 +48,10 @@ pub(crate) fn fire<N: Nodes + Drop, M: Names + Drop, S: Steps>(
     steps: &mut S,
 )
     requires none_over { M.over over.old.names ≡ [] }
-    ensures acts { Acts (Both (N.stands over.old.nodes) (M.stands over.old.names)) (Both (N.stands over.new.nodes) (M.stands over.new.names)) N.rule (FromTaken node.number.0) (fired node.number.0) (λ s. s) (S.told steps.old) (S.told steps.new) (S.lacks steps.old) (S.lacks steps.new) }
+    ensures acts { Acts (Both (N.stands over.old.nodes) (M.stands over.old.names))
+        (Both (N.stands over.new.nodes) (M.stands over.new.names)) N.rule
+        (FromTaken node.number.0) (fired node.number.0) (λ s. s) (S.told steps.old)
+        (S.told steps.new) (S.lacks steps.old) (S.lacks steps.new) }
     ensures plain { OnlyRises (N.is_plain over.old.nodes) (N.is_plain over.new.nodes) }
     ensures slots { N.slots over.new.nodes ≡ N.slots over.old.nodes }
     ensures over { M.over over.new.names ≡ M.over over.old.names }

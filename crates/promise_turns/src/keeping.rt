@@ -25,7 +25,11 @@ fn keep<N: Nodes + Drop, M: Names + Drop, S: Steps>(
     outcome: Outcome,
     steps: &mut S,
 )
-    ensures does { Does (λ w. Both (N.stands over.old.nodes) (M.stands over.old.names) w × Outlives node.number.0 tree.number.0 w) (Both (N.stands over.new.nodes) (M.stands over.new.names)) (kept_then (announced DepthFirst node.number.0) node.number.0 tree.number.0 (Some outcome)) (λ s. s) (S.told steps.old) (S.told steps.new) }
+    ensures does { Does (λ w. Both (N.stands over.old.nodes) (M.stands over.old.names) w ×
+        Outlives node.number.0 tree.number.0 w)
+        (Both (N.stands over.new.nodes) (M.stands over.new.names))
+        (kept_then (announced DepthFirst node.number.0) node.number.0 tree.number.0 (Some outcome))
+        (λ s. s) (S.told steps.old) (S.told steps.new) }
     ensures lacks { S.lacks steps.new ≡ S.lacks steps.old }
     ensures plain { OnlyRises (N.is_plain over.old.nodes) (N.is_plain over.new.nodes) }
     ensures slots { N.slots over.new.nodes ≡ N.slots over.old.nodes }
@@ -52,7 +56,10 @@ pub(crate) fn fire_keeping<N: Nodes + Drop, M: Names + Drop, S: Steps>(
     tree: Link,
     steps: &mut S,
 )
-    ensures acts { Acts (Both (N.stands over.old.nodes) (M.stands over.old.names)) (Both (N.stands over.new.nodes) (M.stands over.new.names)) N.rule (From (KeepsCase tree) node.number.0) (fired node.number.0) (λ s. s) (S.told steps.old) (S.told steps.new) (S.lacks steps.old) (S.lacks steps.new) }
+    ensures acts { Acts (Both (N.stands over.old.nodes) (M.stands over.old.names))
+        (Both (N.stands over.new.nodes) (M.stands over.new.names)) N.rule
+        (From (KeepsCase tree) node.number.0) (fired node.number.0) (λ s. s) (S.told steps.old)
+        (S.told steps.new) (S.lacks steps.old) (S.lacks steps.new) }
     ensures plain { OnlyRises (N.is_plain over.old.nodes) (N.is_plain over.new.nodes) }
     ensures slots { N.slots over.new.nodes ≡ N.slots over.old.nodes }
     ensures over { M.over over.new.names ≡ M.over over.old.names }
@@ -71,7 +78,11 @@ fn share<N: Nodes + Drop, M: Names + Drop, S: Steps>(
     outcome: Outcome,
     steps: &mut S,
 )
-    ensures does { Does (λ w. Both (N.stands over.old.nodes) (M.stands over.old.names) w × BranchesOutlive hub.number.0 tree.number.0 w) (Both (N.stands over.new.nodes) (M.stands over.new.names)) (kept_then (branches_announced hub.number.0) hub.number.0 tree.number.0 (Some outcome)) (λ s. s) (S.told steps.old) (S.told steps.new) }
+    ensures does { Does (λ w. Both (N.stands over.old.nodes) (M.stands over.old.names) w ×
+        BranchesOutlive hub.number.0 tree.number.0 w)
+        (Both (N.stands over.new.nodes) (M.stands over.new.names))
+        (kept_then (branches_announced hub.number.0) hub.number.0 tree.number.0 (Some outcome))
+        (λ s. s) (S.told steps.old) (S.told steps.new) }
     ensures lacks { S.lacks steps.new ≡ S.lacks steps.old }
     ensures plain { OnlyRises (N.is_plain over.old.nodes) (N.is_plain over.new.nodes) }
     ensures slots { N.slots over.new.nodes ≡ N.slots over.old.nodes }
@@ -97,7 +108,10 @@ pub(crate) fn fire_sharing<N: Nodes + Drop, M: Names + Drop, S: Steps>(
     tree: Link,
     steps: &mut S,
 )
-    ensures acts { Acts (Both (N.stands over.old.nodes) (M.stands over.old.names)) (Both (N.stands over.new.nodes) (M.stands over.new.names)) N.rule (From (Shares tree) node.number.0) (fired node.number.0) (λ s. s) (S.told steps.old) (S.told steps.new) (S.lacks steps.old) (S.lacks steps.new) }
+    ensures acts { Acts (Both (N.stands over.old.nodes) (M.stands over.old.names))
+        (Both (N.stands over.new.nodes) (M.stands over.new.names)) N.rule
+        (From (Shares tree) node.number.0) (fired node.number.0) (λ s. s) (S.told steps.old)
+        (S.told steps.new) (S.lacks steps.old) (S.lacks steps.new) }
     ensures plain { OnlyRises (N.is_plain over.old.nodes) (N.is_plain over.new.nodes) }
     ensures slots { N.slots over.new.nodes ≡ N.slots over.old.nodes }
     ensures over { M.over over.new.names ≡ M.over over.old.names }

@@ -66,7 +66,9 @@ fn event_of(form: &Form) -> Event
 
 // What the event of a node does; nothing where it isn't live.
 fn event_at<N: Nodes>(nodes: &N, node: Link) -> Event
-    ensures event { (w : World) → N.stands nodes.now w → IsEvent result (form_at node.number.0 w.nodes) }
+    ensures event { (w : World)
+        → N.stands nodes.now w
+        → IsEvent result (form_at node.number.0 w.nodes) }
     ensures plain { IfPlain result (N.is_plain nodes.now node.number.0 ≡ true) }
 {
     match nodes.form(node) {
@@ -77,7 +79,9 @@ fn event_at<N: Nodes>(nodes: &N, node: Link) -> Event
 
 /// The same over the ground of an evaluator.
 pub(crate) fn look<N: Nodes + Drop, M: Names + Drop>(over: &Evaluator<N, M>, node: Link) -> Event
-    ensures event { (w : World) → N.stands over.now.nodes w → IsEvent result (form_at node.number.0 w.nodes) }
+    ensures event { (w : World)
+        → N.stands over.now.nodes w
+        → IsEvent result (form_at node.number.0 w.nodes) }
     ensures plain { IfPlain result (N.is_plain over.now.nodes node.number.0 ≡ true) }
 {
     event_at(over.ground.nodes(), node)
@@ -85,8 +89,15 @@ pub(crate) fn look<N: Nodes + Drop, M: Names + Drop>(over: &Evaluator<N, M>, nod
 
 /// What owns a live Side.
 pub(crate) fn above<N: Nodes + Drop, M: Names + Drop>(over: &Evaluator<N, M>, side: Link) -> Above
-    ensures fires { (setting : Setting) (tree : ℕ) (s : State) → N.stands over.now.nodes s.world → IsLive s.world side.number.0 → side_fired_by setting (owner_of side.number.0 s.world.nodes) side.number.0 tree s ≡ fired_under setting result side.number.0 tree s }
-    ensures owner { (w : World) → N.stands over.now.nodes w → IsLive w side.number.0 → IsOwner result (owner_of side.number.0 w.nodes) }
+    ensures fires { (setting : Setting) (tree : ℕ) (s : State)
+        → N.stands over.now.nodes s.world
+        → IsLive s.world side.number.0
+        → side_fired_by setting (owner_of side.number.0 s.world.nodes) side.number.0 tree s ≡
+        fired_under setting result side.number.0 tree s }
+    ensures owner { (w : World)
+        → N.stands over.now.nodes w
+        → IsLive w side.number.0
+        → IsOwner result (owner_of side.number.0 w.nodes) }
 {
     above_side(over.ground.nodes(), side)
 }
@@ -96,7 +107,9 @@ pub(crate) fn is_fast_ready<N: Nodes + Drop, M: Names + Drop>(
     over: &Evaluator<N, M>,
     joined: Joined,
 ) -> bool
-    ensures { (w : World) → N.stands over.now.nodes w → result ≡ join_ready true (sides_of joined) w.nodes }
+    ensures { (w : World)
+        → N.stands over.now.nodes w
+        → result ≡ join_ready true (sides_of joined) w.nodes }
 {
     is_join_ready(over.ground.nodes(), true, joined.first, joined.count)
 }

@@ -29,7 +29,12 @@ fn win<N: Nodes + Drop, M: Names + Drop, S: Steps>(
     tree: Link,
     steps: &mut S,
 )
-    ensures does { Does (λ w. Both (N.stands over.old.nodes) (M.stands over.old.names) w × MayWin race.number.0 left.number.0 side.number.0 tree.number.0 w) (Both (N.stands over.new.nodes) (M.stands over.new.names)) (race_won race.number.0 left.number.0 (next_number left.number.0) side.number.0 (loser left.number.0 side.number.0) tree.number.0) (λ s. s) (S.told steps.old) (S.told steps.new) }
+    ensures does { Does (λ w. Both (N.stands over.old.nodes) (M.stands over.old.names) w × MayWin
+        race.number.0 left.number.0 side.number.0 tree.number.0 w)
+        (Both (N.stands over.new.nodes) (M.stands over.new.names))
+        (race_won race.number.0 left.number.0 (next_number left.number.0) side.number.0
+        (loser left.number.0 side.number.0) tree.number.0) (λ s. s) (S.told steps.old)
+        (S.told steps.new) }
     ensures lacks { S.lacks steps.new ≡ S.lacks steps.old }
     ensures plain { OnlyRises (N.is_plain over.old.nodes) (N.is_plain over.new.nodes) }
     ensures slots { N.slots over.new.nodes ≡ N.slots over.old.nodes }
@@ -59,7 +64,12 @@ fn fire_under_race<N: Nodes + Drop, M: Names + Drop, S: Steps>(
     tree: Link,
     steps: &mut S,
 )
-    ensures acts { Acts (Both (N.stands over.old.nodes) (M.stands over.old.names)) (Both (N.stands over.new.nodes) (M.stands over.new.names)) N.rule (FromUnder tree race.number.0 (Race left.number.0 (next_number left.number.0) (node_number winner)) node.number.0) (fired node.number.0) (λ s. s) (S.told steps.old) (S.told steps.new) (S.lacks steps.old) (S.lacks steps.new) }
+    ensures acts { Acts (Both (N.stands over.old.nodes) (M.stands over.old.names))
+        (Both (N.stands over.new.nodes) (M.stands over.new.names)) N.rule
+        (FromUnder tree race.number.0
+        (Race left.number.0 (next_number left.number.0) (node_number winner)) node.number.0)
+        (fired node.number.0) (λ s. s) (S.told steps.old) (S.told steps.new) (S.lacks steps.old)
+        (S.lacks steps.new) }
     ensures plain { OnlyRises (N.is_plain over.old.nodes) (N.is_plain over.new.nodes) }
     ensures slots { N.slots over.new.nodes ≡ N.slots over.old.nodes }
     ensures over { M.over over.new.names ≡ M.over over.old.names }
@@ -77,7 +87,12 @@ fn count<N: Nodes + Drop, M: Names + Drop>(
     side: Link,
     tree: Link,
 )
-    ensures nodes { (w : World) → N.stands over.old.nodes w → form_at side.number.0 w.nodes ≡ Some (Side (WaitsStage tree.number.0)) → IsLive w joined.join.number.0 → N.stands over.new.nodes (all_fired joined.join.number.0 (sides_of joined) side.number.0 tree.number.0 w) }
+    ensures nodes { (w : World)
+        → N.stands over.old.nodes w
+        → form_at side.number.0 w.nodes ≡ Some (Side (WaitsStage tree.number.0))
+        → IsLive w joined.join.number.0
+        → N.stands over.new.nodes
+        (all_fired joined.join.number.0 (sides_of joined) side.number.0 tree.number.0 w) }
     ensures names { over.new.names ≡ over.old.names }
     ensures plain { OnlyRises (N.is_plain over.old.nodes) (N.is_plain over.new.nodes) }
     ensures slots { N.slots over.new.nodes ≡ N.slots over.old.nodes }
@@ -93,7 +108,11 @@ fn fire_under_all<N: Nodes + Drop, M: Names + Drop, S: Steps>(
     tree: Link,
     steps: &mut S,
 )
-    ensures acts { Acts (Both (N.stands over.old.nodes) (M.stands over.old.names)) (Both (N.stands over.new.nodes) (M.stands over.new.names)) N.rule (FromUnder tree joined.join.number.0 (Join false (sides_of joined)) node.number.0) (fired node.number.0) (λ s. s) (S.told steps.old) (S.told steps.new) (S.lacks steps.old) (S.lacks steps.new) }
+    ensures acts { Acts (Both (N.stands over.old.nodes) (M.stands over.old.names))
+        (Both (N.stands over.new.nodes) (M.stands over.new.names)) N.rule
+        (FromUnder tree joined.join.number.0 (Join false (sides_of joined)) node.number.0)
+        (fired node.number.0) (λ s. s) (S.told steps.old) (S.told steps.new) (S.lacks steps.old)
+        (S.lacks steps.new) }
     ensures plain { OnlyRises (N.is_plain over.old.nodes) (N.is_plain over.new.nodes) }
     ensures slots { N.slots over.new.nodes ≡ N.slots over.old.nodes }
     ensures over { M.over over.new.names ≡ M.over over.old.names }
@@ -111,7 +130,11 @@ fn keep<N: Nodes + Drop, M: Names + Drop, S: Steps>(
     outcome: Outcome,
     steps: &mut S,
 )
-    ensures does { Does (λ w. Both (N.stands over.old.nodes) (M.stands over.old.names) w × Outlives joined.join.number.0 tree.number.0 w) (Both (N.stands over.new.nodes) (M.stands over.new.names)) (kept_then (fast_announced was_ready joined.join.number.0 (sides_of joined)) side.number.0 tree.number.0 (Some outcome)) (λ s. s) (S.told steps.old) (S.told steps.new) }
+    ensures does { Does (λ w. Both (N.stands over.old.nodes) (M.stands over.old.names) w ×
+        Outlives joined.join.number.0 tree.number.0 w)
+        (Both (N.stands over.new.nodes) (M.stands over.new.names))
+        (kept_then (fast_announced was_ready joined.join.number.0 (sides_of joined)) side.number.0
+        tree.number.0 (Some outcome)) (λ s. s) (S.told steps.old) (S.told steps.new) }
     ensures lacks { S.lacks steps.new ≡ S.lacks steps.old }
     ensures plain { OnlyRises (N.is_plain over.old.nodes) (N.is_plain over.new.nodes) }
     ensures slots { N.slots over.new.nodes ≡ N.slots over.old.nodes }
@@ -140,7 +163,11 @@ fn fire_under_fast<N: Nodes + Drop, M: Names + Drop, S: Steps>(
     tree: Link,
     steps: &mut S,
 )
-    ensures acts { Acts (Both (N.stands over.old.nodes) (M.stands over.old.names)) (Both (N.stands over.new.nodes) (M.stands over.new.names)) N.rule (FromUnder tree joined.join.number.0 (Join true (sides_of joined)) node.number.0) (fired node.number.0) (λ s. s) (S.told steps.old) (S.told steps.new) (S.lacks steps.old) (S.lacks steps.new) }
+    ensures acts { Acts (Both (N.stands over.old.nodes) (M.stands over.old.names))
+        (Both (N.stands over.new.nodes) (M.stands over.new.names)) N.rule
+        (FromUnder tree joined.join.number.0 (Join true (sides_of joined)) node.number.0)
+        (fired node.number.0) (λ s. s) (S.told steps.old) (S.told steps.new) (S.lacks steps.old)
+        (S.lacks steps.new) }
     ensures plain { OnlyRises (N.is_plain over.old.nodes) (N.is_plain over.new.nodes) }
     ensures slots { N.slots over.new.nodes ≡ N.slots over.old.nodes }
     ensures over { M.over over.new.names ≡ M.over over.old.names }
@@ -159,7 +186,10 @@ pub(crate) fn fire_side<N: Nodes + Drop, M: Names + Drop, S: Steps>(
     tree: Link,
     steps: &mut S,
 )
-    ensures acts { Acts (Both (N.stands over.old.nodes) (M.stands over.old.names)) (Both (N.stands over.new.nodes) (M.stands over.new.names)) N.rule (From (Waits tree) node.number.0) (fired node.number.0) (λ s. s) (S.told steps.old) (S.told steps.new) (S.lacks steps.old) (S.lacks steps.new) }
+    ensures acts { Acts (Both (N.stands over.old.nodes) (M.stands over.old.names))
+        (Both (N.stands over.new.nodes) (M.stands over.new.names)) N.rule
+        (From (Waits tree) node.number.0) (fired node.number.0) (λ s. s) (S.told steps.old)
+        (S.told steps.new) (S.lacks steps.old) (S.lacks steps.new) }
     ensures plain { OnlyRises (N.is_plain over.old.nodes) (N.is_plain over.new.nodes) }
     ensures slots { N.slots over.new.nodes ≡ N.slots over.old.nodes }
     ensures over { M.over over.new.names ≡ M.over over.old.names }

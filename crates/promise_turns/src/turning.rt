@@ -32,7 +32,9 @@ fn is_stopped<N: Nodes + Drop, M: Names + Drop>(over: &Evaluator<N, M>) -> bool
 // The queue is rewound, and its first event is taken and fires; its node, or number 0 for the wait.
 fn take<N: Nodes + Drop, M: Names + Drop>(over: &mut Evaluator<N, M>) -> Option<Link>
     ensures head { (w : World) → N.stands over.old.nodes w → link_number result ≡ head_of w.queue }
-    ensures nodes { (w : World) → N.stands over.old.nodes w → N.stands over.new.nodes (event_taken (link_number result) w) }
+    ensures nodes { (w : World)
+        → N.stands over.old.nodes w
+        → N.stands over.new.nodes (event_taken (link_number result) w) }
     ensures names { over.new.names ≡ over.old.names }
     ensures plain { OnlyRises (N.is_plain over.old.nodes) (N.is_plain over.new.nodes) }
     ensures slots { N.slots over.new.nodes ≡ N.slots over.old.nodes }
@@ -42,7 +44,9 @@ fn take<N: Nodes + Drop, M: Names + Drop>(over: &mut Evaluator<N, M>) -> Option<
 
 // No event fires any more, and the queue is rewound.
 fn end<N: Nodes + Drop, M: Names + Drop>(over: &mut Evaluator<N, M>)
-    ensures nodes { (w : World) → N.stands over.old.nodes w → N.stands over.new.nodes (event_ended w) }
+    ensures nodes { (w : World)
+        → N.stands over.old.nodes w
+        → N.stands over.new.nodes (event_ended w) }
     ensures names { over.new.names ≡ over.old.names }
     ensures plain { OnlyRises (N.is_plain over.old.nodes) (N.is_plain over.new.nodes) }
     ensures slots { N.slots over.new.nodes ≡ N.slots over.old.nodes }
@@ -57,7 +61,10 @@ fn turn_at<N: Nodes + Drop, M: Names + Drop, S: Steps>(
     steps: &mut S,
 ) -> TakenTurn
     requires none_over { M.over over.old.names ≡ [] }
-    ensures turns { Acts (Both (N.stands over.old.nodes) (M.stands over.old.names)) (Both (N.stands over.new.nodes) (M.stands over.new.names)) N.rule (FromTaken event.number.0) (turned_at event.number.0) (turned_as (turned_in result)) (S.told steps.old) (S.told steps.new) (S.lacks steps.old) (S.lacks steps.new) }
+    ensures turns { Acts (Both (N.stands over.old.nodes) (M.stands over.old.names))
+        (Both (N.stands over.new.nodes) (M.stands over.new.names)) N.rule
+        (FromTaken event.number.0) (turned_at event.number.0) (turned_as (turned_in result))
+        (S.told steps.old) (S.told steps.new) (S.lacks steps.old) (S.lacks steps.new) }
     ensures memory { (answer : Answer) (s : State)
         → Both (N.stands over.old.nodes) (M.stands over.old.names) s.world
         → FromTaken event.number.0 (setting_of N.rule answer) s → s.world.stopped ≡ false
@@ -82,7 +89,10 @@ pub fn take_turn<N: Nodes + Drop, M: Names + Drop, S: Steps>(
     steps: &mut S,
 ) -> TakenTurn
     requires none_over { M.over over.old.names ≡ [] }
-    ensures turns { Acts (Both (N.stands over.old.nodes) (M.stands over.old.names)) (Both (N.stands over.new.nodes) (M.stands over.new.names)) N.rule RunsOn turn (turned_as (turned_in result)) (S.told steps.old) (S.told steps.new) (S.lacks steps.old) (S.lacks steps.new) }
+    ensures turns { Acts (Both (N.stands over.old.nodes) (M.stands over.old.names))
+        (Both (N.stands over.new.nodes) (M.stands over.new.names)) N.rule RunsOn turn
+        (turned_as (turned_in result)) (S.told steps.old) (S.told steps.new) (S.lacks steps.old)
+        (S.lacks steps.new) }
     ensures memory { (answer : Answer) (s : State)
         → Both (N.stands over.old.nodes) (M.stands over.old.names) s.world
         → RunsOn (setting_of N.rule answer) s
@@ -100,7 +110,10 @@ pub fn take_turn<N: Nodes + Drop, M: Names + Drop, S: Steps>(
 
 // Whether the loop has stopped, as it has where a tree is left over.
 fn has_ended<N: Nodes + Drop, M: Names + Drop>(over: &Evaluator<N, M>) -> bool
-    ensures stopped { (s : State) → M.stands over.now.names s.world → Rests s → result ≡ s.world.stopped }
+    ensures stopped { (s : State)
+        → M.stands over.now.names s.world
+        → Rests s
+        → result ≡ s.world.stopped }
     ensures none_over { result ≡ false → M.over over.now.names ≡ [] }
 {
     if is_stopped(over) {
@@ -130,7 +143,10 @@ pub fn turn<N: Nodes + Drop, M: Names + Drop, S: Steps>(
     over: &mut Evaluator<N, M>,
     steps: &mut S,
 ) -> Turned
-    ensures turns { Acts (Both (N.stands over.old.nodes) (M.stands over.old.names)) (Both (N.stands over.new.nodes) (M.stands over.new.names)) N.rule MayTurn turn (turned_as result) (S.told steps.old) (S.told steps.new) (S.lacks steps.old) (S.lacks steps.new) }
+    ensures turns { Acts (Both (N.stands over.old.nodes) (M.stands over.old.names))
+        (Both (N.stands over.new.nodes) (M.stands over.new.names)) N.rule MayTurn turn
+        (turned_as result) (S.told steps.old) (S.told steps.new) (S.lacks steps.old)
+        (S.lacks steps.new) }
     ensures memory { (answer : Answer) (s : State)
         → Both (N.stands over.old.nodes) (M.stands over.old.names) s.world
         → MayTurn (setting_of N.rule answer) s

@@ -36,7 +36,8 @@ impl<P: Sent, R: Send> Model for Guarded<P, R> {
 
     ghost view = { λ g. book g.board.limit g.log.entries };
 
-    ghost invariant = { λ g. Whole P.fits g.board g.log.entries g.log.room g.places.items (vec_capacity g.places) };
+    ghost invariant = { λ g. Whole P.fits g.board g.log.entries g.log.room g.places.items
+        (vec_capacity g.places) };
 }
 
 impl<P: Sent + Drop, R: Send + Drop> Guarded<P, R> {
