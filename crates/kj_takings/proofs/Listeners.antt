@@ -1,8 +1,9 @@
 -- What is armed has a ready tree.
-use Rattle.std.proofs.Common.{◌≡◌, ◌∙◌, inl, inr, refl, sym, ap, subst, zero, suc, ℕ, ◌+◌, ◌≤◌, List, [], ◌∷◌, Bool, true, false, not, ◌&&◌, ◌||◌, Option, None, Some, arith}
-use Rattle.std.specs.Prelude.{is_some, nat_eq}
+use Rattle.std.proofs.Common.{◌≡◌, ◌∙◌, inl, inr, refl, sym, ap, subst, zero, suc, ℕ, ◌+◌, ◌≤◌, ◌<◌, List, [], ◌∷◌, Bool, true, false, not, ◌&&◌, ◌||◌, Option, None, Some, arith}
+use Rattle.std.specs.Prelude.{is_some, nat_eq, nat_lt}
 use Rattle.std.specs.List.{list_any}
 use Rattle.std.proofs.lemmas.Bool.{false≢true}
+use Rattle.std.proofs.lemmas.Bool.Decides.{nat_tests}
 use Rattle.kj_base.specs.Queue.{Way}
 use Rattle.kj_base.specs.declared.outcomes.Outcome.{Outcome}
 use Rattle.kj_base.specs.declared.numbers.Limits.{Limits}
@@ -12,7 +13,12 @@ use Rattle.kj_model.specs.Changes.{silent, put, arm_listener, frees_in}
 use Rattle.kj_model.specs.Owned.{numbers}
 use Rattle.kj_model.specs.Framed.{times}
 use Rattle.kj_model.specs.Listening.{ready, ready_found, ready_form, hub_ready, join_ready, waits, keeps_exception, listener, listener_from, listener_over, listener_if, root_listener, wait_if, announced, listened, listened_if, listened_way, is_last, settled, settled_form}
-use Rattle.kj_model.proofs.Members.{in_one, in_none}
+use Rattle.kj_model.proofs.Members.{in_one, in_none, in_right, in_self}
+use Rattle.kj_model.proofs.Once.{false_by}
+use Rattle.kj_model.specs.Places.{built}
+use Rattle.kj_model.specs.Owned.{tree_roots}
+use Rattle.kj_ownership.proofs.Builders.{built_is}
+use Rattle.kj_ownership.proofs.Moves.{built_grows}
 use Rattle.kj_model.proofs.Spared.{same_number, form_put_same, form_put_other}
 use Rattle.kj_ownership.specs.Owners.{is_live, owns}
 use Rattle.kj_ownership.specs.Shapes.{Shaped, OfSide, suits, part_kind}
@@ -21,7 +27,7 @@ use Rattle.kj_ownership.proofs.Changed.{in_armed, put_standing}
 use Rattle.kj_ownership.proofs.Flat.{live_number}
 use Rattle.kj_ownership.proofs.Shapes.{shaped_put, empty_suits}
 use Rattle.kj_ownership.proofs.Sides.{owner_is}
-use Rattle.kj_ownership.proofs.Stays.{in_times}
+use Rattle.kj_ownership.proofs.Stays.{in_times, at_least, owner_live}
 use Rattle.kj_takings.specs.Arming.{content_tree, tree_of, IsReady, HasReadyTree, QueueReady}
 
 number_in : (x y : ℕ) → ◌≡◌ {A = Option ℕ} (Some x) (Some y) → x ≡ y
@@ -232,3 +238,98 @@ settled_ready way n o s st sh q = settled_case way n o (form_at n s.world.nodes)
 -- a new loop
 pub new_ready : (limits : Limits) → QueueReady (new_state limits).world
 new_ready limits e i = absurd (in_none e i)
+
+-- a node more: what was ready is ready still
+any_in : (f g : ℕ → Bool) (xs : List ℕ) → ((x : ℕ) → is_in x xs ≡ true → f x ≡ g x) → list_any f xs ≡ list_any g xs
+any_in f g [] h = refl
+any_in f g (x ∷ xs) h = ap (λ (b : Bool). b || list_any f xs) (h x (in_self x xs)) ∙ ap (λ (b : Bool). g x || b) (any_in f g xs (λ y i. h y (in_right y (x ∷ []) xs i)))
+
+-- nodes with one more, which nobody owns
+record OneMore (n : ℕ) (es fs : List Entry) : Type 0 where
+  others : (m : ℕ) → nat_eq n m ≡ false → form_at m fs ≡ form_at m es
+  none : form_at n es ≡ None
+  unowned : (q : ℕ) → owns q n es ≡ false
+
+other_side : (n m x : ℕ) (es fs : List Entry) → OneMore n es fs → owns m x es ≡ true → form_at x fs ≡ form_at x es
+other_side n m x es fs more own = decide (nat_eq n x) refl
+  where
+    decide : (b : Bool) → nat_eq n x ≡ b → form_at x fs ≡ form_at x es
+    decide false e = more.others x e
+    decide true e = absurd (false≢true (sym (more.unowned m) ∙ ap (λ (y : ℕ). owns m y es) (sym (same_number n x e)) ∙ own))
+
+join_more : (fast : Bool) (sides : List ℕ) (n m : ℕ) (es fs : List Entry) → OneMore n es fs → form_at m es ≡ Some (Join fast sides) → join_ready fast sides fs ≡ join_ready fast sides es
+join_more fast sides n m es fs more at =
+    let same : (x : ℕ) → is_in x sides ≡ true → form_at x fs ≡ form_at x es = λ x i. other_side n m x es fs more (ap (λ (o : Option Form). is_in x (Rattle.kj_model.specs.Nodes.parts_found o)) at ∙ i) in
+    let a = any_in (λ side. keeps_exception (form_at side fs)) (λ side. keeps_exception (form_at side es)) sides (λ x i. ap keeps_exception (same x i)) in
+    let b = any_in (λ side. waits (form_at side fs)) (λ side. waits (form_at side es)) sides (λ x i. ap waits (same x i)) in
+    ap (λ (c : Bool). (fast && c) || not (list_any (λ side. waits (form_at side fs)) sides)) a ∙ ap (λ (c : Bool). (fast && list_any (λ side. keeps_exception (form_at side es)) sides) || not c) b
+
+hub_more : (hub n : ℕ) (es fs : List Entry) → OneMore n es fs → hub_ready (form_at hub es) ≡ true → hub_ready (form_at hub fs) ≡ true
+hub_more hub n es fs more h = decide (nat_eq n hub) refl
+  where
+    decide : (b : Bool) → nat_eq n hub ≡ b → hub_ready (form_at hub fs) ≡ true
+    decide false e = ap hub_ready (more.others hub e) ∙ h
+    decide true e = absurd (false≢true (sym (ap hub_ready (ap (λ (m : ℕ). form_at m es) (same_number n hub e) ∙ more.none)) ∙ h))
+
+form_more : (k n m : ℕ) (es fs : List Entry) (f : Option Form) → OneMore n es fs → form_at m es ≡ f → ((x : ℕ) → ready k es x ≡ true → ready k fs x ≡ true) → ready_found (ready k es) es f ≡ true → ready_found (ready k fs) fs f ≡ true
+form_more k n m es fs None more at ih h = h
+form_more k n m es fs (Some (Then v e (Some t))) more at ih h = ih t h
+form_more k n m es fs (Some (Then v e None)) more at ih h = h
+form_more k n m es fs (Some (Branch hub)) more at ih h = hub_more hub n es fs more h
+form_more k n m es fs (Some (Join fast sides)) more at ih h = join_more fast sides n m es fs more at ∙ h
+form_more k n m es fs (Some _) more at ih h = h
+
+more_rises : (k n m : ℕ) (es fs : List Entry) → OneMore n es fs → ready k es m ≡ true → ready k fs m ≡ true
+more_rises zero n m es fs more h = h
+more_rises (suc k) n m es fs more h = decide (nat_eq n m) refl (λ x. more_rises k n x es fs more)
+  where
+    decide : (b : Bool) → nat_eq n m ≡ b → ((x : ℕ) → ready k es x ≡ true → ready k fs x ≡ true) → ready (suc k) fs m ≡ true
+    decide false e ih = ap (ready_found (ready k fs) fs) (more.others m e) ∙ form_more k n m es fs (form_at m es) more refl ih h
+    decide true e ih = absurd (false≢true (sym (ap (ready_found (ready k es) es) (ap (λ (x : ℕ). form_at x es) (same_number n m e) ∙ more.none)) ∙ h))
+
+-- the next number is no node, and nobody owns it
+next_dead : (s : State) → IsRecorded s → form_at s.world.next s.world.nodes ≡ None
+next_dead s rec = dead (form_at s.world.next s.world.nodes) refl
+  where
+    no_sum : (a b m : ℕ) → a + b ≡ Rattle.kj_ownership.specs.Standing.one_if (nat_lt 0 m && nat_lt m m) → 1 ≤ a → ⊥
+    no_sum a b m e l = absurd (grind (arith, nat_tests))
+
+    dead : (o : Option Form) → form_at s.world.next s.world.nodes ≡ o → form_at s.world.next s.world.nodes ≡ None
+    dead None e = e
+    dead (Some form) e = absurd (no_sum (times s.world.next (numbers s.world.nodes)) (times s.world.next (frees_in s.past)) s.world.next (rec s.world.next) (in_times s.world.next (numbers s.world.nodes) (live_number s.world.next s.world.nodes (ap is_some e))))
+
+next_alone : (s : State) → Owned s → (q : ℕ) → owns q s.world.next s.world.nodes ≡ false
+next_alone s o q = false_by (owns q s.world.next s.world.nodes) (λ own.
+    let z = o.below.places s.world.next (omega arith) in
+    let i = at_least (λ r. times s.world.next (Rattle.kj_model.specs.Nodes.parts_at r s.world.nodes)) q 1 (numbers s.world.nodes) (live_number q s.world.nodes (owner_live q s.world.next s.world.nodes own)) (in_times s.world.next (Rattle.kj_model.specs.Nodes.parts_at q s.world.nodes) own) in
+    no_place (times s.world.next (tree_roots s.world)) (Rattle.kj_ownership.specs.Standing.owned_times s.world.next s.world.nodes) i z)
+  where
+    no_place : (c d : ℕ) → 1 ≤ d → 0 + (c + d) ≡ 0 → ⊥
+    no_place c d h z = omega (arith, h, z)
+
+no_event : (n next : ℕ) (awaited live : Bool) → nat_eq next n ≡ true → 0 < next → Rattle.std.specs.Prelude.cond (nat_eq n 0) awaited live ≡ true → live ≡ true
+no_event n next awaited live e l h = grind (arith, nat_tests)
+
+one_more : (before : Option ℕ) (form : Form) (s : State) → Owned s → OneMore s.world.next s.world.nodes (built before form s.world).nodes
+one_more before form s o = record { others = (built_is before form s o.recorded).others; none = next_dead s o.recorded; unowned = next_alone s o }
+
+built_queue : (before : Option ℕ) (form : Form) (s : State) → Owned s → QueueReady s.world → (e : ℕ) → is_in e s.world.queue.list ≡ true → (v : World) → v.nodes ≡ (built before form s.world).nodes → v.awaited ≡ s.world.awaited → HasReadyTree v e
+built_queue before form s o q e i v nodes waits_on = record {
+  node = λ t x.
+      let r = (q e i).node t (old (nat_eq s.world.next e) refl t (sym (ap (λ (es : List Entry). tree_of (form_at e es)) nodes) ∙ x)) in
+      (r.0, ap (λ (es : List Entry). ready r.0 es t) nodes ∙ more_rises r.0 s.world.next t s.world.nodes (built before form s.world).nodes (one_more before form s o) r.1);
+  wait = λ z a x.
+      let r = (q e i).wait z a (sym waits_on ∙ x) in
+      (r.0, ap (λ (es : List Entry). ready r.0 es a.root) nodes ∙ more_rises r.0 s.world.next a.root s.world.nodes (built before form s.world).nodes (one_more before form s o) r.1);
+}
+  where
+    old : (b : Bool) → nat_eq s.world.next e ≡ b → (t : ℕ) → tree_of (form_at e (built before form s.world).nodes) ≡ Some t → tree_of (form_at e s.world.nodes) ≡ Some t
+    old false d t x = sym (ap tree_of ((one_more before form s o).others e d)) ∙ x
+    old true d t x =
+        let live = no_event e s.world.next (is_some s.world.awaited) (is_live e s.world.nodes) d o.below.positive (o.queued e i) in
+        absurd (false≢true (sym (ap is_some (ap (λ (m : ℕ). form_at m s.world.nodes) (same_number s.world.next e d) ∙ (one_more before form s o).none)) ∙ live))
+
+pub built_ready : (before : Option ℕ) (form : Form) (s : State) → Owned s → QueueReady s.world → QueueReady (built before form s.world)
+built_ready before form s o q e i =
+    let g = built_grows before form s.world in
+    built_queue before form s o q e (ap (λ (w : World). is_in e w.queue.list) (sym g.3) ∙ i) (built before form s.world) refl (ap (λ (w : World). w.awaited) g.3)

@@ -1,4 +1,4 @@
-use Rattle.kj_takings.proofs.Listeners.{announced_ready, listened_ready, settled_ready, new_ready}
+use Rattle.kj_takings.proofs.Listeners.{announced_ready, listened_ready, settled_ready, built_ready, new_ready}
 use Rattle.kj_takings.proofs.arming.what_is_armed_has_a_ready_tree.Goals as goal
 
 pub returns-clause-announced : goal.returns-clause-announced
@@ -12,3 +12,6 @@ returns-clause-start c = new_ready
 
 pub returns-clause-settled : goal.returns-clause-settled
 returns-clause-settled c = settled_ready
+
+pub returns-clause-built : goal.returns-clause-built
+returns-clause-built c = built_ready
