@@ -1,5 +1,6 @@
 //! Which nodes would go with trees, worked out by hand.
 use crate::tables::{TableEvaluator, evaluator_over_tables};
+use crate::unheard::Unheard;
 use kj_base::{Content, Form, Limits, Link, Name, NodeId, Slot, StepId};
 use promise_commands::Command;
 use promise_nodes::Nodes;
@@ -19,7 +20,7 @@ fn name(number: u32) -> Name {
 }
 
 fn apply(over: &mut TableEvaluator, command: Command) -> bool {
-    over.ground.apply(&command).is_ok()
+    over.ground.apply(&command, &mut Unheard).is_ok()
 }
 
 fn later(over: &mut TableEvaluator, number: u32) -> bool {
