@@ -1,9 +1,10 @@
 -- Names of which one promises nothing any more.
-use Rattle.std.proofs.Common.{◌≡◌, ◌∙◌, sym, ap, ℕ, Option, None, Some, Bool, true, false, refl, arith}
+use Rattle.std.proofs.Common.{◌≡◌, ◌∙◌, ◌<◌, sym, ap, subst, ℕ, Option, None, Some, Bool, true, false, refl, arith}
 use Rattle.std.specs.Prelude.{nat_eq}
 use Rattle.std.proofs.lemmas.Bool.{false≢true}
 use Rattle.std.proofs.lemmas.Bool.Decides.{nat_tests}
 use Rattle.promise_names.specs.Held.{AreFree, HasRoot}
+use Rattle.promise_nodes.specs.Kept.{OnlyFalls, Same}
 
 none_some : (n : ℕ) → ◌≡◌ {A = Option ℕ} None (Some n) → ⊥
 none_some n e = cc
@@ -41,3 +42,19 @@ free_same old new taken next free same = record {
   built = λ other root h. free.built other root (sym (same other) ∙ h);
   apart = λ a b root h k. free.apart a b root (sym (same a) ∙ h) (sym (same b) ∙ k);
 }
+
+falls_case : (old new : ℕ → Bool) (n : ℕ) (b : Bool) → new n ≡ b → OnlyFalls old new → old n ≡ false → new n ≡ false
+falls_case old new n true e falls h = absurd (false≢true (sym h ∙ falls n e))
+falls_case old new n false e falls h = e
+
+-- no node is taken that wasn't
+pub free_falls : (roots : ℕ → Option ℕ) (old new : ℕ → Bool) (next after : ℕ) → AreFree roots old next → OnlyFalls old new → after ≡ next → AreFree roots new after
+free_falls roots old new next after free falls same = record {
+  untaken = λ name root h. falls_case old new root (new root) refl falls (free.untaken name root h);
+  built = λ name root h. subst (λ (n : ℕ). root < n) (sym same) (free.built name root h);
+  apart = free.apart;
+}
+
+-- the same where just those are taken that were
+pub free_still : (roots : ℕ → Option ℕ) (old new : ℕ → Bool) (next after : ℕ) → AreFree roots old next → Same old new → after ≡ next → AreFree roots new after
+free_still roots old new next after free same stays = free_falls roots old new next after free (λ n h. sym (same n) ∙ h) stays
