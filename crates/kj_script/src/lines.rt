@@ -120,8 +120,9 @@ pub(crate) fn do_line<N: Nodes + Drop, M: Names + Drop>(
         (told_by steps.new) text.new
         (log_line (setting_of N.rule bodies) numbered.number (line_of numbered.line) l)) }
 {
-    match numbered.line {
-        Line::Do(command) => do_command(over, steps, text, numbered.number, command),
+    let NumberedLine { number, line } = numbered;
+    match line {
+        Line::Do(command) => do_command(over, steps, text, number, command),
         Line::Turn => do_turn(over, steps, text),
         Line::Run(turns) => do_run(over, steps, text, turns),
     }
