@@ -7,8 +7,8 @@ use Rattle.promise_commands.specs.declared.script.NumberedLine.{NumberedLine}
 use Rattle.promise_script.specs.Left.{with_found}
 use Rattle.kj_script.proofs.run.run_on.Goals as goal
 
-pub loop-text-init : goal.loop-text-init
-loop-text-init g c =
+pub loop-left-init : goal.loop-left-init
+loop-left-init g c =
     let bodies : List Body = map body_of c.args.script.now.bodies in
     let setting = setting_of g.N.Nodes.rule bodies in
     let first : Logged = new_log (limits_or c.args.script.now.limits) in (
@@ -21,13 +21,13 @@ loop-text-init g c =
       ap (λ (xs : List NumberedLine). log_lines setting (map numbered_of xs) first) (sym c.lines-left.ensures),
     )
 
-pub loop-text-preserved : goal.loop-text-preserved
-loop-text-preserved g c =
+pub loop-left-preserved : goal.loop-left-preserved
+loop-left-preserved g c =
     let bodies : List Body = map body_of c.args.script.now.bodies in
     let setting = setting_of g.N.Nodes.rule bodies in
-    let before = c.loop-text.invariant in
+    let before = c.loop-left.invariant in
     let now : Logged = before.0 in
-    let left : c.loop-text.left ≡ c.in-Some.line ∷ c.next.new.self =
+    let left : c.loop-left.left ≡ c.in-Some.line ∷ c.next.new.self =
     c.in_ok-line.ensures.next ∙ ap (λ (o : Option NumberedLine). with_found o c.next.new.self) c.in-Some.is in (
       _,
       c.in_ok-do_line.ensures bodies now before.1,
@@ -39,8 +39,8 @@ returns g c =
     let bodies : List Body = map body_of c.args.script.now.bodies in
     let setting = setting_of g.N.Nodes.rule bodies in
     let first : Logged = new_log (limits_or c.args.script.now.limits) in
-    let before = c.loop-text.invariant in
+    let before = c.loop-left.invariant in
     let now : Logged = before.0 in
-    let none : c.loop-text.left ≡ [] = search rules in
+    let none : c.loop-left.left ≡ [] = search rules in
     let all : log_lines setting (map numbered_of c.args.script.now.lines) first ≡ now = before.2 ∙ ap (λ (xs : List NumberedLine). log_lines setting (map numbered_of xs) now) none in
     c.in_ok-close.ensures bodies now before.1 ∙ ap (λ (l : Logged). log_text (log_closed l)) (sym all)
