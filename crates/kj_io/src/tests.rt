@@ -76,7 +76,7 @@ fn streams_give_and_take_in_turns(rt: HostRuntime) -> Result<(), Fail> {
     ] {
         assert_eq!(&rt; stream.read(&mut buf), got);
     }
-    assert!(&rt; buf.as_slice() == b" oct".as_slice());
+    assert!(&rt; buf.as_slice() == b"e oc".as_slice());
     for put in [
         Put::Bytes(1),
         Put::Bytes(2),
