@@ -10,7 +10,7 @@ use Rattle.promise_names.specs.Once.{AreOnce, AreRising}
 use Rattle.promise_names.specs.declared.names.Held.{Held}
 use Rattle.promise_names.specs.declared.names.Held.TheVariants.{Promise, CellOf, AskCell, HubOf, Group, Canceler, RequestOf}
 use Rattle.name_table.specs.declared.entries.Entry.{Entry}
-use Rattle.promise_names.specs.Held.{held_shown, root_of, IsLoopsOwn, HasNoneListed}
+use Rattle.promise_names.specs.Held.{held_shown, root_of, IsLoopsOwn, HasNoneListed, members_of}
 use Rattle.name_table.specs.Entries.{IsRising, held_in, names_of}
 use Rattle.name_table.specs.Table.{Table, Stands, AreLoopsOwn, trees, root_at}
 
@@ -38,6 +38,27 @@ no_group n (e ∷ es) = no_group_step n e e.held es refl (no_group n es)
 -- no set has a task
 pub table_no_tasks : (t : Table) (w : World) (n : ℕ) → Stands t w → group_of n w.names ≡ None
 table_no_tasks t w n st = ap (group_of n) st.names ∙ no_group n t.entries
+
+no_members_case : (h : Held) → members_of (Some (held_shown [] h)) ≡ []
+no_members_case (Promise root) = refl
+no_members_case (CellOf cell) = refl
+no_members_case (AskCell cell taken) = refl
+no_members_case (HubOf hub) = refl
+no_members_case (Group error empty) = refl
+no_members_case Canceler = refl
+no_members_case (RequestOf request) = refl
+
+no_members_step : (name : ℕ) (e : Entry) (es : List Entry) (b : Bool) → nat_eq e.name.0 name ≡ b → members_of (held_at name (names_of es)) ≡ [] → members_of (held_at name (names_of (e ∷ es))) ≡ []
+no_members_step name e es true t ih = rw t (no_members_case e.held)
+no_members_step name e es false t ih = rw t ih
+
+no_members : (name : ℕ) (es : List Entry) → members_of (held_at name (names_of es)) ≡ []
+no_members name [] = refl
+no_members name (e ∷ es) = no_members_step name e es (nat_eq e.name.0 name) refl (no_members name es)
+
+-- no set has a task, and no canceler a Wrap
+pub table_no_members : (t : Table) (w : World) (name : ℕ) → Stands t w → members_of (held_at name w.names) ≡ []
+table_no_members t w name st = ap (λ (names : List Named). members_of (held_at name names)) st.names ∙ no_members name t.entries
 
 isnt : (a b : ℕ) → a < b → nat_eq b a ≡ false
 isnt a b h = grind (arith, nat_tests)

@@ -135,7 +135,7 @@ impl Names for NameTable {
         left_over::drop_tree(&mut self.over, tree);
     }
 
-    ghost use Rattle.name_table.specs.Laws.{table_nodes_free, table_over_is, table_no_tasks, table_no_requests, table_none_listed, table_once, table_rising, table_limit_is, table_roots_are};
+    ghost use Rattle.name_table.specs.Laws.{table_nodes_free, table_over_is, table_no_members, table_no_tasks, table_no_requests, table_none_listed, table_once, table_rising, table_limit_is, table_roots_are};
 
     ghost nodes_free = { table_nodes_free };
 
@@ -144,6 +144,8 @@ impl Names for NameTable {
     ghost no_requests = { table_no_requests };
 
     ghost none_listed = { table_none_listed };
+
+    ghost no_members = { table_no_members };
 
     ghost no_tasks = { table_no_tasks };
 

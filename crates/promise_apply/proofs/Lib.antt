@@ -8,3 +8,6 @@ pub mod Counted
 pub mod Passed
 pub mod Several
 pub mod Told
+pub mod Idle
+pub mod Dropped
+pub mod Restored

@@ -14,8 +14,8 @@ use Rattle.kj_model.specs.Changes.{silent}
 use Rattle.kj_model.specs.Free.{Holding, usual}
 use Rattle.kj_model.specs.Effects.{effect}
 use Rattle.kj_model.specs.Uses.{Use, uses_of, first_failing, is_outside, is_unknown, is_wrong, is_taken}
-use Rattle.kj_model.specs.Apply.{Refused, Unknown, WrongKind, Taken, Full, Stopped, apply, applied, refusal, refused_stopped, refused_inside, refused_unknown, refused_wrong, refused_taken, refused_busy, refused_full, is_full, is_busy, is_busy_at, is_free_of, would_free, would_settle, rows, names_after, each_named, with_awaited, is_none}
-use Rattle.promise_apply.specs.Applying.{Rule, setting_of, IsApplied, Applies, IsCommand, ArePassed, names_refused, refused_for, refused_if, refused_name, or_else, lacks_room, names_left}
+use Rattle.kj_model.specs.Apply.{Refused, Unknown, WrongKind, Taken, Busy, Full, Stopped, apply, applied, refusal, refused_stopped, refused_inside, refused_unknown, refused_wrong, refused_taken, refused_busy, refused_full, is_full, is_busy, is_busy_at, is_free_of, would_free, would_settle, rows, names_after, each_named, with_awaited, is_none, name_of_first}
+use Rattle.promise_apply.specs.Applying.{Rule, setting_of, IsApplied, Applies, IsCommand, IsIdle, ArePassed, names_refused, refused_for, refused_when, refused_if, refused_name, or_else, lacks_room, names_left}
 
 both_false : (a b : Bool) → a ≡ false → b ≡ false → (a || b) ≡ false
 both_false a b h k = rw (h, k) refl
@@ -43,20 +43,30 @@ full_is true = refl
 full_is false = refl
 
 -- whether it is Full
-full_same : (rule : Rule) (answer : List Item → ℕ → Option Action) (c : Command) (w : World) (uses : List Use) (built : World → List Row) (change : World → World) → IsCommand c uses built change → is_full (setting_of rule answer) c w ≡ lacks_room rule uses (built w) w
-full_same rule answer c w uses built change is =
-    ap (λ (rs : List Row). not (rule w.limits.slots w.spots rs) || nat_lt w.limits.names (names_after c w) || (not (is_none rs) && nat_lt (2 ^ 63) w.next)) (is.rows_are w)
-    ∙ ap (λ (us : List Use). not (rule w.limits.slots w.spots (built w)) || nat_lt w.limits.names (names_left us w) || (not (is_none (built w)) && nat_lt (2 ^ 63) w.next)) is.uses_are
+full_same : (rule : Rule) (answer : List Item → ℕ → Option Action) (c : Command) (w : World) (uses : List Use) (built : List Row) → uses_of c ≡ uses → rows c w ≡ built → is_full (setting_of rule answer) c w ≡ lacks_room rule uses built w
+full_same rule answer c w uses built uses_are rows_are =
+    ap (λ (rs : List Row). not (rule w.limits.slots w.spots rs) || nat_lt w.limits.names (names_after c w) || (not (is_none rs) && nat_lt (2 ^ 63) w.next)) rows_are
+    ∙ ap (λ (us : List Use). not (rule w.limits.slots w.spots built) || nat_lt w.limits.names (names_left us w) || (not (is_none built) && nat_lt (2 ^ 63) w.next)) uses_are
 
-taken_is : (rule : Rule) (answer : List Item → ℕ → Option Action) (c : Command) (s : State) (uses : List Use) (built : World → List Row) (change : World → World) → IsCommand c uses built change → (o : Option ℕ)
-    → refused_taken o (setting_of rule answer) c s ≡ or_else (refused_name Taken o) (refused_if (lacks_room rule uses (built s.world) s.world) Full)
-taken_is rule answer c s uses built change is (Some n) = refl
-taken_is rule answer c s uses built change is None =
-    ap (λ (b : Bool). refused_busy b (setting_of rule answer) c s) (never_busy c s uses built change is)
-    ∙ full_is (is_full (setting_of rule answer) c s.world)
-    ∙ ap (λ (b : Bool). refused_if b Full) (full_same rule answer c s.world uses built change is)
+abbrev busy_or_full : Bool → Rule → List Use → List Row → World → Option Refused
+busy_or_full busy rule uses built w = or_else (refused_if busy (Busy (name_of_first uses))) (refused_if (lacks_room rule uses built w) Full)
 
-or_else_twice : (a b c : Option Refused) → or_else a (or_else b c) ≡ or_else (or_else a b) c
+busy_same : (busy : Bool) (rule : Rule) (answer : List Item → ℕ → Option Action) (c : Command) (s : State) (uses : List Use) (built : List Row) → uses_of c ≡ uses → rows c s.world ≡ built
+    → refused_busy busy (setting_of rule answer) c s ≡ busy_or_full busy rule uses built s.world
+busy_same true rule answer c s uses built uses_are rows_are = ap (λ (us : List Use). Some (Busy (name_of_first us))) uses_are
+busy_same false rule answer c s uses built uses_are rows_are =
+    full_is (is_full (setting_of rule answer) c s.world)
+    ∙ ap (λ (b : Bool). refused_if b Full) (full_same rule answer c s.world uses built uses_are rows_are)
+
+taken_is : (busy : Bool) (rule : Rule) (answer : List Item → ℕ → Option Action) (c : Command) (s : State) (uses : List Use) (built : List Row) → uses_of c ≡ uses → rows c s.world ≡ built → (o : Option ℕ) → is_busy c s ≡ busy
+    → refused_taken o (setting_of rule answer) c s ≡ or_else (refused_name Taken o) (busy_or_full busy rule uses built s.world)
+taken_is busy rule answer c s uses built uses_are rows_are (Some n) is = refl
+taken_is busy rule answer c s uses built uses_are rows_are None is =
+    ap (λ (b : Bool). refused_busy b (setting_of rule answer) c s) is
+    ∙ busy_same busy rule answer c s uses built uses_are rows_are
+
+-- causes one after another
+pub or_else_twice : (a b c : Option Refused) → or_else a (or_else b c) ≡ or_else (or_else a b) c
 or_else_twice None b c = refl
 or_else_twice (Some r) b c = refl
 
@@ -72,26 +82,33 @@ stopped_is : (setting : Setting) (inside b : Bool) (c : Command) (s : State) (la
 stopped_is setting inside true c s later out e = refl
 stopped_is setting inside false c s later out e = ap (λ (b : Bool). refused_inside b setting c s) (and_false inside (is_outside c) out) ∙ e
 
--- why it is refused
-pub refusal_is : (rule : Rule) (answer : List Item → ℕ → Option Action) (inside : Bool) (c : Command) (s : State) (uses : List Use) (built : World → List Row) (change : World → World) → IsCommand c uses built change
-    → refusal (setting_of rule answer) inside c s ≡ refused_for rule uses (built s.world) s.world
-refusal_is rule answer inside c s uses built change is =
+-- why a command is refused that may be Busy
+pub refusal_when : (busy : Bool) (rule : Rule) (answer : List Item → ℕ → Option Action) (inside : Bool) (c : Command) (s : State) (uses : List Use) (built : List Row)
+    → uses_of c ≡ uses → rows c s.world ≡ built → is_outside c ≡ false → is_busy c s ≡ busy
+    → refusal (setting_of rule answer) inside c s ≡ refused_when busy rule uses built s.world
+refusal_when busy rule answer inside c s uses built uses_are rows_are anywhere is =
     let w = s.world in
     let us = uses_of c in
     let setting = setting_of rule answer in
-    let full = refused_if (lacks_room rule uses (built w) w) Full in
+    let full = busy_or_full busy rule uses built w in
     let unknown = refused_name Unknown (first_failing (is_unknown w) [] us) in
     let wrong = refused_name WrongKind (first_failing (is_wrong w) [] us) in
     let taken = refused_name Taken (first_failing (is_taken w) [] us) in
     let by_names = unknown_is setting c s (first_failing (is_unknown w) [] us) (or_else wrong (or_else taken full))
     (wrong_is setting c s (first_failing (is_wrong w) [] us) (or_else taken full)
-    (taken_is rule answer c s uses built change is (first_failing (is_taken w) [] us))) in
-    stopped_is setting inside w.stopped c s (or_else unknown (or_else wrong (or_else taken full))) is.anywhere by_names
+    (taken_is busy rule answer c s uses built uses_are rows_are (first_failing (is_taken w) [] us) is)) in
+    stopped_is setting inside w.stopped c s (or_else unknown (or_else wrong (or_else taken full))) anywhere by_names
     ∙ ap (or_else (refused_if w.stopped Stopped)) (ap (or_else unknown) (or_else_twice wrong taken full) ∙ or_else_twice unknown (or_else wrong taken) full)
-    ∙ ap (λ (xs : List Use). or_else (refused_if w.stopped Stopped) (or_else (names_refused xs w) full)) is.uses_are
+    ∙ ap (λ (xs : List Use). or_else (refused_if w.stopped Stopped) (or_else (names_refused xs w) full)) uses_are
+
+-- why it is refused
+pub refusal_is : (rule : Rule) (answer : List Item → ℕ → Option Action) (inside : Bool) (c : Command) (s : State) (uses : List Use) (built : World → List Row) (change : World → World) → IsCommand c uses built change
+    → refusal (setting_of rule answer) inside c s ≡ refused_for rule uses (built s.world) s.world
+refusal_is rule answer inside c s uses built change is =
+    refusal_when false rule answer inside c s uses (built s.world) is.uses_are (is.rows_are s.world) is.anywhere (never_busy c s uses built change is)
 
 -- rows matter only where the names pass
-none_first : (a b : Option Refused) → or_else a b ≡ None → (a ≡ None) × (b ≡ None)
+pub none_first : (a b : Option Refused) → or_else a b ≡ None → (a ≡ None) × (b ≡ None)
 none_first None b h = (refl, h)
 none_first (Some r) b h = absurd (some_none r h)
   where
@@ -167,3 +184,23 @@ pub refused_so : (Old : World → Type 0) (rule : Rule) (r : Result (Unit {0}) R
     → ((w : World) → Old w → Some (refused_of e) ≡ refused_for rule uses rowed w) → ((w : World) → Old w → ArePassed uses w → rowed ≡ built w) → Applies Old Old rule (refusal_of r) c
 refused_so Old rule r e c uses rowed built change so is refused same =
     subst (λ (o : Option Refused). Applies Old Old rule o c) (sym (passed_on r e so)) (refused_applies Old rule (refused_of e) c uses rowed built change is (λ w old. sym (refused w old)) same)
+
+-- an idle command frees nothing and settles nothing
+idle_calm_at : (Old : World → Type 0) (firing : Option ℕ) (c : Command) (s : State) (uses : List Use) → IsIdle Old c uses → Old s.world → is_busy_at firing c s ≡ false
+idle_calm_at Old None c s uses is old = refl
+idle_calm_at Old (Some n) c s uses is old = both_false (would_settle n c s.world) (would_free n c s) (is.spares n s.world old)
+    (ap (λ (t : State). list_any (is_free_of n) (drop (length s.past) t.past)) (is.changes (Holding []) s old)
+    ∙ ap (list_any (is_free_of n)) (drop-length s.past))
+
+idle_answer : (o : Option Refused) (c : Command) (s : State) → effect (usual s.world) c s ≡ s → applied o c s ≡ (s, o)
+idle_answer None c s same = ap (λ (t : State). with_none t) same
+idle_answer (Some r) c s same = refl
+
+-- a command without effect, whose names are tested
+pub idle_applies : (Old : World → Type 0) (rule : Rule) (o : Option Refused) (c : Command) (uses : List Use) → IsIdle Old c uses → ((w : World) → Old w → o ≡ refused_for rule uses [] w) → Applies Old Old rule o c
+idle_applies Old rule o c uses is refused answer inside s old =
+    let w = s.world in
+    let why : refusal (setting_of rule answer) inside c s ≡ o =
+    refusal_when false rule answer inside c s uses [] is.uses_are (is.rows_are w) is.anywhere (idle_calm_at Old w.firing c s uses is old) ∙ sym (refused w old) in
+    let what : apply (setting_of rule answer) inside c s ≡ (s, o) = ap (λ (r : Option Refused). applied r c s) why ∙ idle_answer o c s (is.changes (usual w) s old) in
+    subst (IsApplied Old s.past o) (sym what) (record { reply = refl; stands = old; past_is = refl })

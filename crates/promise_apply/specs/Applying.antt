@@ -3,12 +3,14 @@ use Rattle.std.specs.Prelude.{◌≡◌, ℕ, ◌+◌, ◌≤◌, ◌^◌, List,
 use Rattle.kj_base.specs.Commands.{Command, Action}
 use Rattle.kj_base.specs.Places.{Spot, Row}
 use Rattle.kj_base.specs.Record.{Item, Tells}
+use Rattle.promise_commands.specs.declared.command.Command.{Command as CommandCase}
+use Rattle.promise_commands.specs.declared.command.Command.TheVariants.{Drop as DropCase}
 use Rattle.kj_model.specs.World.{World, State, Setting, Awaited}
 use Rattle.kj_model.specs.Changes.{silent}
 use Rattle.kj_model.specs.Free.{Guard}
 use Rattle.kj_model.specs.Effects.{effect}
 use Rattle.kj_model.specs.Uses.{Use, uses_of, first_failing, is_outside, is_unknown, is_wrong, is_taken, is_name, is_new, is_source, used_before}
-use Rattle.kj_model.specs.Apply.{Refused, Unknown, WrongKind, Taken, Full, Stopped, apply, rows, each_named, with_awaited, is_none, would_settle}
+use Rattle.kj_model.specs.Apply.{Refused, Unknown, WrongKind, Taken, Busy, Full, Stopped, apply, rows, each_named, with_awaited, is_none, name_of_first, would_settle}
 
 -- whether rows fit, by the number of slots and the spots of the live nodes
 abbrev pub Rule : Type 0
@@ -64,9 +66,17 @@ names_refused uses w =
     (or_else (refused_name WrongKind (first_failing (is_wrong w) [] uses))
     (refused_name Taken (first_failing (is_taken w) [] uses)))
 
+-- why these names are refused: Stopped first
+abbrev pub refused_first : List Use → World → Option Refused
+refused_first uses w = or_else (refused_if w.stopped Stopped) (names_refused uses w)
+
 -- why these names and rows are refused: Stopped first, and Full last
 abbrev pub refused_for : Rule → List Use → List Row → World → Option Refused
 refused_for rule uses built w = or_else (refused_if w.stopped Stopped) (or_else (names_refused uses w) (refused_if (lacks_room rule uses built w) Full))
+
+-- the same where the command may be Busy, which comes before Full
+abbrev pub refused_when : Bool → Rule → List Use → List Row → World → Option Refused
+refused_when busy rule uses built w = or_else (refused_if w.stopped Stopped) (or_else (names_refused uses w) (or_else (refused_if busy (Busy (name_of_first uses))) (refused_if (lacks_room rule uses built w) Full)))
 
 -- no name refuses
 pub record ArePassed (uses : List Use) (w : World) : Type 0 where
@@ -104,6 +114,11 @@ pub record HasRoom (room : List Row → Bool) (next count limit : ℕ) (uses : L
   pub numbered : is_none built ≡ false → next ≤ 2 ^ 63
   pub named : count + count_new uses ≤ limit + count_sources uses
 
+-- a command that frees nothing
+abbrev pub IsSilent : CommandCase → Type 0
+IsSilent (DropCase name) = ⊥
+IsSilent other = Unit {0}
+
 -- a command has these names, rows and effect; a step may give it, and it settles no Wrap
 pub record IsCommand (c : Command) (uses : List Use) (built : World → List Row) (change : World → World) : Type 0 where
   pub uses_are : uses_of c ≡ uses
@@ -111,3 +126,11 @@ pub record IsCommand (c : Command) (uses : List Use) (built : World → List Row
   pub changes : (guard : Guard) (s : State) → effect guard c s ≡ silent change s
   pub anywhere : is_outside c ≡ false
   pub spares : (n : ℕ) (w : World) → would_settle n c w ≡ false
+
+-- a command has these names and no rows, and has no effect on a world that stands; a step may give it, and it settles no Wrap
+pub record IsIdle (Old : World → Type 0) (c : Command) (uses : List Use) : Type 0 where
+  pub uses_are : uses_of c ≡ uses
+  pub rows_are : (w : World) → rows c w ≡ []
+  pub changes : (guard : Guard) (s : State) → Old s.world → effect guard c s ≡ s
+  pub anywhere : is_outside c ≡ false
+  pub spares : (n : ℕ) (w : World) → Old w → would_settle n c w ≡ false

@@ -2,3 +2,4 @@ pub mod Building
 pub mod Uses
 pub mod Joining
 pub mod Applying
+pub mod Dropping

@@ -17,11 +17,12 @@ ghost use Rattle.promise_names.specs.Held.{AreFree};
 ghost use Rattle.promise_apply.specs.Building.{Both, over_shown, pair_built};
 ghost use Rattle.promise_apply.specs.Uses.{uses_shown};
 ghost use Rattle.promise_apply.specs.Joining.{FitsJoined, joined_built, rows_before};
-ghost use Rattle.promise_apply.specs.Applying.{Applies, IsApplied, IsCommand, setting_of};
+ghost use Rattle.promise_apply.specs.Applying.{Applies, IsApplied, IsCommand, IsSilent, setting_of};
 
 use crate::building::{Over, build_leaf, build_over, detach};
 use crate::cells::{build_pair, drop_cell, settle_cell};
 use crate::chaining::{build_chain, build_fork, build_listening};
+use crate::groups::{apply_cancel, apply_clear, apply_empty, apply_holder};
 use crate::joining::{Joined, build_joined};
 use crate::naming::{Role, Use};
 use crate::refusing::check;
@@ -30,7 +31,7 @@ use crate::sources::{cell_named, hub_named, root_named, sources_named};
 use arrayvec::ArrayVec;
 use kj_base::{Exception, Form, Name, Outcome, StepId, Words};
 use promise_commands::{Command, MAX_PARTS, Refused};
-use promise_names::Names;
+use promise_names::{Held, Names};
 use promise_nodes::{NodeRow, Nodes};
 
 /// The most names that a command has: a new one, and the sources of a join.
@@ -544,6 +545,7 @@ pub(crate) fn apply_silent<N: Nodes, M: Names>(
     names: &mut M,
     command: &Command,
 ) -> Result<(), Refused>
+    requires silent { IsSilent command.now }
     requires free { AreFree (M.roots names.old) (N.is_taken nodes.old) (N.next nodes.old) }
     requires few { M.count names.old ≤ M.limit names.old }
     ensures applied { (answer : List Item → ℕ → Option Action) (inside : Bool) (s : State) → Both (N.stands nodes.old) (M.stands names.old) s.world → IsApplied (Both (N.stands nodes.new) (M.stands names.new)) s.past (refusal_of result) (apply (setting_of N.rule answer) inside (command_of command.now) s) }
@@ -600,5 +602,20 @@ pub(crate) fn apply_silent<N: Nodes, M: Names>(
         }
         Command::DropCell { cell } => apply_drop_cell(nodes, names, *cell),
         Command::Detach { source } => apply_detach(nodes, names, *source),
+        Command::NewSet { group, error } => {
+            let held = Held::Group {
+                error: *error,
+                empty: None,
+            };
+            apply_holder(nodes, names, *group, held)
+        }
+        Command::OnEmpty { name, group } => apply_empty(nodes, names, *name, *group),
+        Command::Clear { group } => apply_clear(nodes, names, *group),
+        Command::NewCanceler { canceler } => {
+            apply_holder(nodes, names, *canceler, Held::Canceler)
+        }
+        Command::Cancel { canceler } => apply_cancel(nodes, names, *canceler),
+        // A Drop isn't silent.
+        Command::Drop { .. } => Ok(()),
     }
 }

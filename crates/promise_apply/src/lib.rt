@@ -3,8 +3,11 @@
 
 mod applying;
 mod building;
+mod busy;
 mod cells;
 mod chaining;
+mod dropping;
+mod groups;
 mod joining;
 mod naming;
 mod refusing;

@@ -1,11 +1,12 @@
 //! Why a command is refused, by its names and the rows of nodes that it builds.
-ghost use Rattle.std.specs.Prelude.{◌≡◌, ◌+◌, ◌-◌, ◌≤◌, false, OnOk, length};
+ghost use Rattle.std.specs.Prelude.{◌≡◌, ◌+◌, ◌-◌, ◌≤◌, [], None, false, OnOk, length};
+ghost use Rattle.kj_model.specs.Apply.{Full};
 ghost use Rattle.kj_model.specs.World.{World};
 ghost use Rattle.promise_commands.specs.Refusals.{refusal_of};
 ghost use Rattle.promise_nodes.specs.Kept.{rows_seen};
 ghost use Rattle.promise_apply.specs.Building.{Both};
 ghost use Rattle.promise_apply.specs.Uses.{uses_shown};
-ghost use Rattle.promise_apply.specs.Applying.{ArePassed, HasRoom, awaited_over, count_new, count_sources, lacks_room, names_left, names_refused, refused_for, stays};
+ghost use Rattle.promise_apply.specs.Applying.{ArePassed, HasRoom, awaited_over, count_new, count_sources, lacks_room, names_left, names_refused, refused_first, refused_for, refused_if, stays};
 
 use crate::naming::{
     Fault, Use, first_fault, is_new_before, is_new_role, is_source_before, is_source_role, is_there,
@@ -99,6 +100,35 @@ fn check_names<N: Nodes, M: Names>(nodes: &N, names: &M, uses: &[Use]) -> Result
         Some(name) => Err(Refused::Taken(name)),
         None => Ok(()),
     }
+}
+
+/// The first cause by its names against a command.
+pub(crate) fn check_named<N: Nodes, M: Names>(
+    nodes: &N,
+    names: &M,
+    uses: &[Use],
+) -> Result<(), Refused>
+    ensures refusal { (w : World) → Both (N.stands nodes.now) (M.stands names.now) w → refusal_of result ≡ refused_first (uses_shown uses.now) w }
+{
+    if names.is_stopped() {
+        return Err(Refused::Stopped);
+    }
+    check_names(nodes, names, uses)
+}
+
+/// Whether a command that builds nothing is Full, once its names pass.
+pub(crate) fn check_count<N: Nodes, M: Names>(
+    nodes: &N,
+    names: &M,
+    uses: &[Use],
+) -> Result<(), Refused>
+    requires few { length uses.now ≤ 9 }
+    ensures refusal { (w : World) → Both (N.stands nodes.now) (M.stands names.now) w → refused_first (uses_shown uses.now) w ≡ None → refusal_of result ≡ refused_if (lacks_room N.rule (uses_shown uses.now) [] w) Full }
+{
+    if lacks_room(nodes, names, uses, &[]) {
+        return Err(Refused::Full);
+    }
+    Ok(())
 }
 
 /// The first cause against a command with these names, which builds these rows.

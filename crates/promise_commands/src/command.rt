@@ -93,6 +93,33 @@ pub enum Command {
     Detach {
         source: Name,
     },
+    /// A set of tasks, with a step for their exceptions (kj/async.h, `TaskSet`).
+    NewSet {
+        group: Name,
+        error: Option<StepId>,
+    },
+    /// A promise that a set is empty (kj/async.h, `TaskSet::onEmpty`).
+    OnEmpty {
+        name: Name,
+        group: Name,
+    },
+    /// The tasks of a set go.
+    Clear {
+        group: Name,
+    },
+    /// A canceler (kj/async.h, `Canceler`).
+    NewCanceler {
+        canceler: Name,
+    },
+    /// What a canceler wraps ends as cancelled (kj/async.h, `Canceler::cancel`).
+    Cancel {
+        canceler: Name,
+    },
+    /// A name goes with the promise, the set or the canceler that it holds, or with its reference of a hub
+    /// (kj/async.h, the destructor of a `Promise`).
+    Drop {
+        name: Name,
+    },
 }
 
 /// What stands in the places of an array of commands that aren't used.
@@ -179,6 +206,22 @@ impl Command {
             },
             Command::DropCell { cell } => Command::DropCell { cell: *cell },
             Command::Detach { source } => Command::Detach { source: *source },
+            Command::NewSet { group, error } => Command::NewSet {
+                group: *group,
+                error: *error,
+            },
+            Command::OnEmpty { name, group } => Command::OnEmpty {
+                name: *name,
+                group: *group,
+            },
+            Command::Clear { group } => Command::Clear { group: *group },
+            Command::NewCanceler { canceler } => Command::NewCanceler {
+                canceler: *canceler,
+            },
+            Command::Cancel { canceler } => Command::Cancel {
+                canceler: *canceler,
+            },
+            Command::Drop { name } => Command::Drop { name: *name },
         }
     }
 }

@@ -1,7 +1,5 @@
 -- Trees that go at the closing.
 use Rattle.std.specs.Prelude.{ℕ, zero, suc, ◌+◌, Option, None, Some, [], cond, false}
-use Rattle.kj_base.specs.declared.nodes.Form.{Form as FormCase}
-use Rattle.kj_base.specs.declared.nodes.Form.TheVariants.{Hub as HubCase}
 use Rattle.kj_model.specs.World.{World, State, Held, held_at}
 use Rattle.kj_model.specs.Changes.{silent, unnamed}
 use Rattle.kj_model.specs.Effects.{hub_unnamed}
@@ -34,11 +32,6 @@ found_closed (Some held) s = closed_held held s
 -- a name goes, and then what it held
 abbrev pub name_closed : ℕ → State → State
 name_closed name s = found_closed (held_at name s.world.names) (silent (unnamed name) s)
-
--- the form of a hub without its name, where it is a hub's
-abbrev pub unnamed_form : FormCase → Option FormCase
-unnamed_form (HubCase content is_named) = Some (HubCase content false)
-unnamed_form other = None
 
 -- how many nodes live with numbers below this one
 abbrev pub live_below : ℕ → World → ℕ

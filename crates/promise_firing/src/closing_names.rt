@@ -1,50 +1,17 @@
 //! What names hold goes when a loop is closed.
 ghost use Rattle.std.specs.Prelude.{◌≡◌, [], vec_capacity};
-ghost use Rattle.kj_model.specs.World.{World};
-ghost use Rattle.kj_model.specs.Effects.{hub_unnamed};
 ghost use Rattle.kj_model.specs.Calls.{closed_held, names_closed};
-ghost use Rattle.promise_nodes.specs.Kept.{OnlyFalls, OnlyRises};
 ghost use Rattle.promise_names.specs.Held.{held_shown};
 ghost use Rattle.promise_walks.specs.Walks.{Both, Does};
-ghost use Rattle.promise_firing.specs.Closed.{hub_name_closed, name_closed, unnamed_form};
+ghost use Rattle.promise_firing.specs.Closed.{hub_name_closed, name_closed};
 ghost use Rattle.promise_firing.specs.Ground.{IsSound, Keeps, ground};
 
 use crate::closing::{close_found, close_tree};
-use kj_base::{Form, Link, Name};
+use kj_base::{Link, Name};
 use promise_commands::Steps;
 use promise_names::{Held, Names};
 use promise_nodes::Nodes;
-use promise_walks::{Frame, Guard, Parts, free_unreferenced};
-
-// The form of a hub without its name, where it is a hub's.
-fn unnamed_form(form: &Form) -> Option<Form>
-    ensures { result ≡ unnamed_form form.now }
-{
-    match form {
-        Form::Hub { content, .. } => Some(Form::Hub {
-            content: content.copy(),
-            is_named: false,
-        }),
-        _ => None,
-    }
-}
-
-// A hub has no name now.
-fn unname_hub<N: Nodes>(nodes: &mut N, hub: Link)
-    ensures stands { (w : World) → N.stands nodes.old w → N.stands nodes.new (hub_unnamed hub.number.0 w) }
-    ensures taken { OnlyFalls (N.is_taken nodes.old) (N.is_taken nodes.new) }
-    ensures plain { OnlyRises (N.is_plain nodes.old) (N.is_plain nodes.new) }
-    ensures next { N.next nodes.new ≡ N.next nodes.old }
-    ensures slots { N.slots nodes.new ≡ N.slots nodes.old }
-{
-    let Some(form) = nodes.form(hub) else {
-        return;
-    };
-    let Some(unnamed) = unnamed_form(form) else {
-        return;
-    };
-    nodes.put(hub, unnamed);
-}
+use promise_walks::{Frame, Guard, Parts, free_unreferenced, unname_hub};
 
 // The name of a hub goes, and the hub with its tree where it has no branch.
 fn close_hub_name<N: Nodes, M: Names, S: Steps>(

@@ -34,6 +34,12 @@ SeesHeld None (Some seen) = ⊥
 SeesHeld (Some held) None = ⊥
 SeesHeld (Some held) (Some seen) = IsHeld held seen
 
+-- the tasks of a set, and the Wraps of a canceler; nothing else has any
+abbrev pub members_of : Option Held → List ℕ
+members_of (Some (Group error tasks empty)) = tasks
+members_of (Some (Canceler wraps)) = wraps
+members_of other = []
+
 -- neither a set nor a canceler
 abbrev pub IsListless : Option Held → Type 0
 IsListless (Some (Group error tasks empty)) = ⊥

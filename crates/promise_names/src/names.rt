@@ -7,7 +7,7 @@ ghost use Rattle.kj_model.specs.Fire.{group_of, without_left_over};
 ghost use Rattle.promise_nodes.specs.Shown.{link_number};
 ghost use Rattle.promise_nodes.specs.Kept.{SameNames};
 ghost use Rattle.promise_names.specs.Once.{AreOnce, AreRising};
-ghost use Rattle.promise_names.specs.Held.{held_shown, SeesHeld, IsListless, IsLoopsOwn, HasRoot, root_of, name_number, awaited_name, first_name, root_renamed, roots_replaced, with_left_over, with_lost, stopped_world, left_world, AreApart, HasNoneListed};
+ghost use Rattle.promise_names.specs.Held.{held_shown, SeesHeld, IsListless, IsLoopsOwn, HasRoot, root_of, name_number, awaited_name, first_name, root_renamed, roots_replaced, with_left_over, with_lost, stopped_world, left_world, members_of, AreApart, HasNoneListed};
 ghost use Rattle.promise_names.specs.declared.names.Held.{Held};
 
 use kj_base::{Link, Name, StepId};
@@ -194,6 +194,9 @@ pub trait Names {
     /// No name is a request's.
     ghost no_requests: { (names : Self) (w : World) (name : ℕ) (node : Option ℕ) → stands names w
         → held_at name w.names ≡ Some (RequestOf node) → ⊥ };
+
+    /// No set has a task, and no canceler a Wrap.
+    ghost no_members: { (names : Self) (w : World) (name : ℕ) → stands names w → members_of (held_at name w.names) ≡ [] };
 
     /// No set has a task.
     ghost no_tasks: { (names : Self) (w : World) (n : ℕ) → stands names w → group_of n w.names ≡ None };

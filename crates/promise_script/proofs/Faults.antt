@@ -154,26 +154,19 @@ open_script lines q stands inside s is =
 
 -- ---- words that are to be built
 
-chained : (a b c d e f g h i j k l : Bool) → (a || b || c || d || e || f || g || h || i || j || k || l)
-    ≡ cond a true (cond b true (cond c true (cond d true (cond e true (cond f true (cond g true (cond h true (cond i true (cond j true (cond k true (cond l true false)))))))))))
-chained true b c d e f g h i j k l = refl
-chained false true c d e f g h i j k l = refl
-chained false false true d e f g h i j k l = refl
-chained false false false true e f g h i j k l = refl
-chained false false false false true f g h i j k l = refl
-chained false false false false false true g h i j k l = refl
-chained false false false false false false true h i j k l = refl
-chained false false false false false false false true i j k l = refl
-chained false false false false false false false false true j k l = refl
-chained false false false false false false false false false true k l = refl
-chained false false false false false false false false false false true l = refl
-chained false false false false false false false false false false false true = refl
-chained false false false false false false false false false false false false = refl
+chained : (a b c d e f : Bool) → (a || b || c || d || e || f)
+    ≡ cond a true (cond b true (cond c true (cond d true (cond e true (cond f true false)))))
+chained true b c d e f = refl
+chained false true c d e f = refl
+chained false false true d e f = refl
+chained false false false true e f = refl
+chained false false false false true f = refl
+chained false false false false false true = refl
+chained false false false false false false = refl
 
 unbuilt_same : (w : List ℕ) → unbuilt_command w ≡ is_among unbuilt_commands w
 unbuilt_same w =
-    chained (bytes_eq w (codes "set")) (bytes_eq w (codes "add")) (bytes_eq w (codes "clear")) (bytes_eq w (codes "empty")) (bytes_eq w (codes "canceler")) (bytes_eq w (codes "wrap"))
-    (bytes_eq w (codes "cancel")) (bytes_eq w (codes "drop")) (bytes_eq w (codes "ask")) (bytes_eq w (codes "begin")) (bytes_eq w (codes "stop")) (bytes_eq w (codes "reply"))
+    chained (bytes_eq w (codes "add")) (bytes_eq w (codes "wrap")) (bytes_eq w (codes "ask")) (bytes_eq w (codes "begin")) (bytes_eq w (codes "stop")) (bytes_eq w (codes "reply"))
 
 -- what is found of the word is what the line is
 unbuilt_sound : (before : List (List ℕ)) (line : List ℕ) (q : Reading) → lines_stood 0 before_lines before ≡ Some q → unbuilt_here (is_inside q.part) (first_word line) ≡ true → IsUnbuilt before line

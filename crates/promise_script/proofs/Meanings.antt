@@ -12,21 +12,21 @@ use Rattle.kj_base.specs.declared.numbers.Limits.{Limits}
 use Rattle.kj_base.specs.declared.outcomes.Exception.{Exception}
 use Rattle.kj_base.specs.declared.endings.Ending.TheVariants.{Value, Throw, Promise, Input}
 use Rattle.promise_commands.specs.declared.command.Command.{Command}
-use Rattle.promise_commands.specs.declared.command.Command.TheVariants.{Now, Broken, Later, Last, Pair, Then, Chain, Eager, Fork, Branch, Race, All, Fast, Fulfil, Reject, DropCell, Detach}
+use Rattle.promise_commands.specs.declared.command.Command.TheVariants.{Now, Broken, Later, Last, Pair, Then, Chain, Eager, Fork, Branch, Race, All, Fast, Fulfil, Reject, DropCell, Detach, NewSet, OnEmpty, Clear, NewCanceler, Cancel, Drop}
 use Rattle.promise_script.specs.declared.meaning.Meaning.{Meaning}
 use Rattle.promise_script.specs.declared.meaning.Meaning.TheVariants.{Nothing, Limits as LimitsLine, Do, Turn, Run, Step, Close}
 use Rattle.promise_script.specs.declared.verbs.Maker.{Maker}
-use Rattle.promise_script.specs.declared.verbs.Maker.TheVariants.{Now as NowWord, Fail as FailWord, Later as LaterWord, Last as LastWord, Pair as PairWord}
+use Rattle.promise_script.specs.declared.verbs.Maker.TheVariants.{Now as NowWord, Fail as FailWord, Later as LaterWord, Last as LastWord, Pair as PairWord, Empty as EmptyWord}
 use Rattle.promise_script.specs.declared.verbs.Combiner.{Combiner}
 use Rattle.promise_script.specs.declared.verbs.Combiner.TheVariants.{Then as ThenWord, Chain as ChainWord, Eager as EagerWord, Fork as ForkWord, Branch as BranchWord, Race as RaceWord, All as AllWord, Fast as FastWord}
 use Rattle.promise_script.specs.declared.verbs.User.{User}
-use Rattle.promise_script.specs.declared.verbs.User.TheVariants.{Fulfil as FulfilWord, Reject as RejectWord, DropCell as DropCellWord, Detach as DetachWord}
+use Rattle.promise_script.specs.declared.verbs.User.TheVariants.{Fulfil as FulfilWord, Reject as RejectWord, DropCell as DropCellWord, Detach as DetachWord, Set as SetWord, Clear as ClearWord, Canceler as CancelerWord, Cancel as CancelWord, Drop as DropWord}
 use Rattle.promise_script.specs.declared.verbs.Verb.{Verb}
 use Rattle.promise_script.specs.declared.verbs.Verb.TheVariants.{Make, Combine, Use, Limits as LimitsWord, Turn as TurnWord, Run as RunWord, Step as StepWord, Value as ValueWord, Throw as ThrowWord, Promise as PromiseWord, Input as InputWord}
 use Rattle.promise_script.specs.ScriptText.{name_word, exception_words, command_words, meaning_words, NameFits, WordsFit, NamesFit, CommandFits, LimitsFit, MeaningFits, words_of, is_remark, Spells, Means}
-use Rattle.promise_script.specs.Decode.{given, both, or_else, and_then, number_read, to_step, words_read, names_read, exception_read, one_name, two_names, two_steps, name_and, maker_read, combiner_read, user_read, other_read, verb_read, made_by, combined_by, used_by, limits_fit, limits_of, limits_read, one_number, turns_read, bare, meaning_read, words_meaning, text_read}
+use Rattle.promise_script.specs.Decode.{given, both, or_else, and_then, number_read, to_step, words_read, names_read, exception_read, one_name, two_names, one_step, two_steps, name_and, maker_read, combiner_read, user_read, other_read, verb_read, made_by, combined_by, used_by, limits_fit, limits_of, limits_read, one_number, turns_read, bare, meaning_read, words_meaning, text_read}
 use Rattle.promise_script.proofs.Numbers.{read_is, read_sound}
-use Rattle.promise_script.proofs.Shapes.{Sound, Complete, given_some, both_some, both_are, first_sound, words_sound, words_complete, names_sound, names_complete, one_name_sound, name_complete, TwoNamesFit, two_names_words, two_names_sound, two_names_complete, TwoStepsFit, two_steps_words, two_steps_sound, two_steps_complete, CodeFits, exception_sound, exception_complete, NameAndFits, name_and_words, name_and_sound, name_and_complete}
+use Rattle.promise_script.proofs.Shapes.{Sound, Complete, given_some, both_some, both_are, first_sound, words_sound, words_complete, names_sound, names_complete, one_name_sound, name_complete, TwoNamesFit, two_names_words, two_names_sound, two_names_complete, one_step_words, one_step_sound, one_step_complete, TwoStepsFit, two_steps_words, two_steps_sound, two_steps_complete, CodeFits, exception_sound, exception_complete, NameAndFits, name_and_words, name_and_sound, name_and_complete}
 
 -- ---- first words
 
@@ -36,9 +36,10 @@ maker_text FailWord = codes "fail"
 maker_text LaterWord = codes "later"
 maker_text LastWord = codes "last"
 maker_text PairWord = codes "pair"
+maker_text EmptyWord = codes "empty"
 
 maker_sound : (w : List ℕ) (v : Maker) → maker_read w ≡ Some v → w ≡ maker_text v
-maker_sound w v e = first_sound maker_text w (NowWord ∷ FailWord ∷ LaterWord ∷ LastWord ∷ PairWord ∷ []) v e
+maker_sound w v e = first_sound maker_text w (NowWord ∷ FailWord ∷ LaterWord ∷ LastWord ∷ PairWord ∷ EmptyWord ∷ []) v e
 
 abbrev combiner_text : Combiner → List ℕ
 combiner_text ThenWord = codes "then"
@@ -58,9 +59,14 @@ user_text FulfilWord = codes "fulfil"
 user_text RejectWord = codes "reject"
 user_text DropCellWord = codes "dropcell"
 user_text DetachWord = codes "detach"
+user_text SetWord = codes "set"
+user_text ClearWord = codes "clear"
+user_text CancelerWord = codes "canceler"
+user_text CancelWord = codes "cancel"
+user_text DropWord = codes "drop"
 
 user_sound : (w : List ℕ) (v : User) → user_read w ≡ Some v → w ≡ user_text v
-user_sound w v e = first_sound user_text w (FulfilWord ∷ RejectWord ∷ DropCellWord ∷ DetachWord ∷ []) v e
+user_sound w v e = first_sound user_text w (FulfilWord ∷ RejectWord ∷ DropCellWord ∷ DetachWord ∷ SetWord ∷ ClearWord ∷ CancelerWord ∷ CancelWord ∷ DropWord ∷ []) v e
 
 abbrev verb_text : Verb → List ℕ
 verb_text (Make v) = maker_text v
@@ -143,6 +149,12 @@ raced_sound = name_and_sound two_names TwoNamesFit two_names_words two_names_sou
 raced_complete : Complete (name_and two_names) (NameAndFits TwoNamesFit) (name_and_words two_names_words)
 raced_complete = name_and_complete two_names TwoNamesFit two_names_words two_names_complete
 
+grouped_sound : Sound (name_and one_step) (NameAndFits StepFits) (name_and_words one_step_words)
+grouped_sound = name_and_sound one_step StepFits one_step_words one_step_sound
+
+grouped_complete : Complete (name_and one_step) (NameAndFits StepFits) (name_and_words one_step_words)
+grouped_complete = name_and_complete one_step StepFits one_step_words one_step_complete
+
 source_sound : Sound (name_and two_steps) (NameAndFits TwoStepsFit) (name_and_words two_steps_words)
 source_sound = name_and_sound two_steps TwoStepsFit two_steps_words two_steps_sound
 
@@ -167,6 +179,7 @@ made_sound FailWord ps c e = command_from (name_and exception_read) (NameAndFits
 made_sound LaterWord ps c e = command_from (one_name) (NameFits) (one_words) (λ (p : Name). Later p) (codes "later") ps c one_sound (λ p fits. fits) (λ p. refl) e
 made_sound LastWord ps c e = command_from (one_name) (NameFits) (one_words) (λ (p : Name). Last p) (codes "last") ps c one_sound (λ p fits. fits) (λ p. refl) e
 made_sound PairWord ps c e = command_from (two_names) (TwoNamesFit) (two_names_words) (λ (p : Name × Name). Pair p.0 p.1) (codes "pair") ps c two_sound (λ p fits. fits) (λ p. refl) e
+made_sound EmptyWord ps c e = command_from (two_names) (TwoNamesFit) (two_names_words) (λ (p : Name × Name). OnEmpty p.0 p.1) (codes "empty") ps c two_sound (λ p fits. fits) (λ p. refl) e
 
 combined_sound : (v : Combiner) (ps : List (List ℕ)) (c : Command) → combined_by v ps ≡ Some c → Commanded (combiner_text v ∷ ps) c
 combined_sound ThenWord ps c e = command_from (name_and (name_and two_steps)) (NameAndFits (NameAndFits TwoStepsFit)) (name_and_words (name_and_words two_steps_words)) (λ (p : Name × (Name × (Option StepId × Option StepId))). Then p.0 p.1.0 p.1.1.0 p.1.1.1) (codes "then") ps c continued_sound (λ p fits. (fits.0, fits.1.0, fits.1.1.0, fits.1.1.1)) (λ p. refl) e
@@ -183,6 +196,11 @@ used_sound FulfilWord ps c e = command_from (name_and words_read) (NameAndFits W
 used_sound RejectWord ps c e = command_from (name_and exception_read) (NameAndFits CodeFits) (name_and_words exception_words) (λ (p : Name × Exception). Reject p.0 p.1) (codes "reject") ps c broken_sound (λ p fits. fits) (λ p. refl) e
 used_sound DropCellWord ps c e = command_from (one_name) (NameFits) (one_words) (λ (p : Name). DropCell p) (codes "dropcell") ps c one_sound (λ p fits. fits) (λ p. refl) e
 used_sound DetachWord ps c e = command_from (one_name) (NameFits) (one_words) (λ (p : Name). Detach p) (codes "detach") ps c one_sound (λ p fits. fits) (λ p. refl) e
+used_sound SetWord ps c e = command_from (name_and one_step) (NameAndFits StepFits) (name_and_words one_step_words) (λ (p : Name × Option StepId). NewSet p.0 p.1) (codes "set") ps c grouped_sound (λ p fits. fits) (λ p. refl) e
+used_sound ClearWord ps c e = command_from (one_name) (NameFits) (one_words) (λ (p : Name). Clear p) (codes "clear") ps c one_sound (λ p fits. fits) (λ p. refl) e
+used_sound CancelerWord ps c e = command_from (one_name) (NameFits) (one_words) (λ (p : Name). NewCanceler p) (codes "canceler") ps c one_sound (λ p fits. fits) (λ p. refl) e
+used_sound CancelWord ps c e = command_from (one_name) (NameFits) (one_words) (λ (p : Name). Cancel p) (codes "cancel") ps c one_sound (λ p fits. fits) (λ p. refl) e
+used_sound DropWord ps c e = command_from (one_name) (NameFits) (one_words) (λ (p : Name). Drop p) (codes "drop") ps c one_sound (λ p fits. fits) (λ p. refl) e
 
 -- ---- lines
 
@@ -441,6 +459,12 @@ command_back (Fulfil n v) fits = ap (λ (o : Option (Name × List ℕ)). given D
 command_back (Reject n x) fits = ap (λ (o : Option (Name × Exception)). given Do (given (λ (p : Name × Exception). Reject p.0 p.1) o)) (broken_complete (n, x) fits)
 command_back (DropCell n) fits = ap (λ (o : Option (Name)). given Do (given (λ (p : Name). DropCell p) o)) (name_complete n fits)
 command_back (Detach n) fits = ap (λ (o : Option (Name)). given Do (given (λ (p : Name). Detach p) o)) (name_complete n fits)
+command_back (NewSet n s) fits = ap (λ (o : Option (Name × Option StepId)). given Do (given (λ (p : Name × Option StepId). NewSet p.0 p.1) o)) (grouped_complete (n, s) fits)
+command_back (OnEmpty n s) fits = ap (λ (o : Option (Name × Name)). given Do (given (λ (p : Name × Name). OnEmpty p.0 p.1) o)) (two_names_complete (n, s) fits)
+command_back (Clear n) fits = ap (λ (o : Option (Name)). given Do (given (λ (p : Name). Clear p) o)) (name_complete n fits)
+command_back (NewCanceler n) fits = ap (λ (o : Option (Name)). given Do (given (λ (p : Name). NewCanceler p) o)) (name_complete n fits)
+command_back (Cancel n) fits = ap (λ (o : Option (Name)). given Do (given (λ (p : Name). Cancel p) o)) (name_complete n fits)
+command_back (Drop n) fits = ap (λ (o : Option (Name)). given Do (given (λ (p : Name). Drop p) o)) (name_complete n fits)
 
 meaning_back : (m : Meaning) → IsSaid m → MeaningFits m → words_meaning (meaning_words m) ≡ Some m
 meaning_back Nothing said fits = absurd said
@@ -499,6 +523,12 @@ command_few (Fulfil n v) fits = omega (arith, length-map v decimal, fits.1.0)
 command_few (Reject n x) fits = lit≤ tt
 command_few (DropCell n) fits = lit≤ tt
 command_few (Detach n) fits = lit≤ tt
+command_few (NewSet n s) fits = lit≤ tt
+command_few (OnEmpty n s) fits = lit≤ tt
+command_few (Clear n) fits = lit≤ tt
+command_few (NewCanceler n) fits = lit≤ tt
+command_few (Cancel n) fits = lit≤ tt
+command_few (Drop n) fits = lit≤ tt
 
 few_words : (m : Meaning) → MeaningFits m → length (meaning_words m) ≤ 18
 few_words Nothing fits = lit≤ tt

@@ -17,7 +17,7 @@ use Rattle.kj_base.specs.declared.outcomes.Kind.{Kind}
 use Rattle.kj_base.specs.declared.outcomes.Kind.TheVariants.{Failed, Overloaded, Disconnected, Unimplemented}
 use Rattle.kj_model.specs.Text.{kind_text}
 use Rattle.promise_script.specs.ScriptText.{name_word, step_word, exception_words, NameFits, StepFits, WordsFit, NamesFit}
-use Rattle.promise_script.specs.Decode.{given, both, all_read, few_read, number_read, to_name, to_step, to_exception, name_read, step_read, kind_read, words_read, names_read, exception_read, one_name, two_names, two_steps, name_and}
+use Rattle.promise_script.specs.Decode.{given, both, all_read, few_read, number_read, to_name, to_step, to_exception, name_read, step_read, kind_read, words_read, names_read, exception_read, one_name, two_names, one_step, two_steps, name_and}
 use Rattle.promise_script.proofs.Numbers.{read_is, read_sound}
 use Rattle.promise_script.proofs.Lists.{consed, consed_some}
 
@@ -191,6 +191,19 @@ two_names_complete p fits = both_are (name_read (name_word p.0)) (name_read (nam
 
 abbrev pub TwoStepsFit : Option StepId × Option StepId → Type 0
 TwoStepsFit p = StepFits p.0 × StepFits p.1
+
+abbrev pub one_step_words : Option StepId → List (List ℕ)
+one_step_words s = step_word s ∷ []
+
+pub one_step_sound : Sound one_step StepFits one_step_words
+one_step_sound [] s e = absurd (cc (e))
+one_step_sound (a ∷ []) s e =
+    let found = step_sound a s e in
+    (found.0, ap (λ (w : List ℕ). w ∷ []) found.1)
+one_step_sound (a ∷ b ∷ ps) s e = absurd (cc (e))
+
+pub one_step_complete : Complete one_step StepFits one_step_words
+one_step_complete s fits = step_complete s fits
 
 abbrev pub two_steps_words : Option StepId × Option StepId → List (List ℕ)
 two_steps_words p = step_word p.0 ∷ step_word p.1 ∷ []

@@ -95,9 +95,8 @@ line_stood n r text = and_then (λ m. stood n m r) (text_read text)
 -- a first word of commands that aren't built yet
 abbrev pub unbuilt_command : List ℕ → Bool
 unbuilt_command w =
-    bytes_eq w (codes "set") || bytes_eq w (codes "add") || bytes_eq w (codes "clear") || bytes_eq w (codes "empty")
-    || bytes_eq w (codes "canceler") || bytes_eq w (codes "wrap") || bytes_eq w (codes "cancel") || bytes_eq w (codes "drop")
-    || bytes_eq w (codes "ask") || bytes_eq w (codes "begin") || bytes_eq w (codes "stop") || bytes_eq w (codes "reply")
+    bytes_eq w (codes "add") || bytes_eq w (codes "wrap") || bytes_eq w (codes "ask") || bytes_eq w (codes "begin")
+    || bytes_eq w (codes "stop") || bytes_eq w (codes "reply")
 
 abbrev pub unbuilt_here : Bool → List ℕ → Bool
 unbuilt_here inside w = unbuilt_command w || (not inside && bytes_eq w (codes "wait"))

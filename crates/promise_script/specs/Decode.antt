@@ -13,15 +13,15 @@ use Rattle.kj_base.specs.declared.outcomes.Kind.{Kind}
 use Rattle.kj_base.specs.declared.outcomes.Kind.TheVariants.{Failed, Overloaded, Disconnected, Unimplemented}
 use Rattle.kj_base.specs.declared.endings.Ending.TheVariants.{Value, Throw, Promise, Input}
 use Rattle.promise_commands.specs.declared.command.Command.{Command}
-use Rattle.promise_commands.specs.declared.command.Command.TheVariants.{Now, Broken, Later, Last, Pair, Then, Chain, Eager, Fork, Branch, Race, All, Fast, Fulfil, Reject, DropCell, Detach}
+use Rattle.promise_commands.specs.declared.command.Command.TheVariants.{Now, Broken, Later, Last, Pair, Then, Chain, Eager, Fork, Branch, Race, All, Fast, Fulfil, Reject, DropCell, Detach, NewSet, OnEmpty, Clear, NewCanceler, Cancel, Drop}
 use Rattle.promise_script.specs.declared.meaning.Meaning.{Meaning}
 use Rattle.promise_script.specs.declared.meaning.Meaning.TheVariants.{Nothing, Limits as LimitsLine, Do, Turn, Run, Step, Close}
 use Rattle.promise_script.specs.declared.verbs.Maker.{Maker}
-use Rattle.promise_script.specs.declared.verbs.Maker.TheVariants.{Now as NowWord, Fail as FailWord, Later as LaterWord, Last as LastWord, Pair as PairWord}
+use Rattle.promise_script.specs.declared.verbs.Maker.TheVariants.{Now as NowWord, Fail as FailWord, Later as LaterWord, Last as LastWord, Pair as PairWord, Empty as EmptyWord}
 use Rattle.promise_script.specs.declared.verbs.Combiner.{Combiner}
 use Rattle.promise_script.specs.declared.verbs.Combiner.TheVariants.{Then as ThenWord, Chain as ChainWord, Eager as EagerWord, Fork as ForkWord, Branch as BranchWord, Race as RaceWord, All as AllWord, Fast as FastWord}
 use Rattle.promise_script.specs.declared.verbs.User.{User}
-use Rattle.promise_script.specs.declared.verbs.User.TheVariants.{Fulfil as FulfilWord, Reject as RejectWord, DropCell as DropCellWord, Detach as DetachWord}
+use Rattle.promise_script.specs.declared.verbs.User.TheVariants.{Fulfil as FulfilWord, Reject as RejectWord, DropCell as DropCellWord, Detach as DetachWord, Set as SetWord, Clear as ClearWord, Canceler as CancelerWord, Cancel as CancelWord, Drop as DropWord}
 use Rattle.promise_script.specs.declared.verbs.Verb.{Verb}
 use Rattle.promise_script.specs.declared.verbs.Verb.TheVariants.{Make, Combine, Use, Limits as LimitsWord, Turn as TurnWord, Run as RunWord, Step as StepWord, Value as ValueWord, Throw as ThrowWord, Promise as PromiseWord, Input as InputWord}
 use Rattle.promise_script.specs.ScriptText.{words_of, is_remark}
@@ -100,6 +100,11 @@ two_names (a ∷ []) = None
 two_names (a ∷ b ∷ []) = both (name_read a) (name_read b)
 two_names (a ∷ b ∷ c ∷ ps) = None
 
+abbrev pub one_step : List (List ℕ) → Option (Option StepId)
+one_step [] = None
+one_step (a ∷ []) = step_read a
+one_step (a ∷ b ∷ ps) = None
+
 abbrev pub two_steps : List (List ℕ) → Option (Option StepId × Option StepId)
 two_steps [] = None
 two_steps (a ∷ []) = None
@@ -119,7 +124,8 @@ maker_read w =
     cond (bytes_eq w (codes "fail")) (Some FailWord) (
     cond (bytes_eq w (codes "later")) (Some LaterWord) (
     cond (bytes_eq w (codes "last")) (Some LastWord) (
-    cond (bytes_eq w (codes "pair")) (Some PairWord) (None)))))
+    cond (bytes_eq w (codes "pair")) (Some PairWord) (
+    cond (bytes_eq w (codes "empty")) (Some EmptyWord) (None))))))
 
 abbrev pub combiner_read : List ℕ → Option Combiner
 combiner_read w =
@@ -137,7 +143,12 @@ user_read w =
     cond (bytes_eq w (codes "fulfil")) (Some FulfilWord) (
     cond (bytes_eq w (codes "reject")) (Some RejectWord) (
     cond (bytes_eq w (codes "dropcell")) (Some DropCellWord) (
-    cond (bytes_eq w (codes "detach")) (Some DetachWord) (None))))
+    cond (bytes_eq w (codes "detach")) (Some DetachWord) (
+    cond (bytes_eq w (codes "set")) (Some SetWord) (
+    cond (bytes_eq w (codes "clear")) (Some ClearWord) (
+    cond (bytes_eq w (codes "canceler")) (Some CancelerWord) (
+    cond (bytes_eq w (codes "cancel")) (Some CancelWord) (
+    cond (bytes_eq w (codes "drop")) (Some DropWord) (None)))))))))
 
 abbrev pub other_read : List ℕ → Option Verb
 other_read w =
@@ -161,6 +172,7 @@ made_by FailWord ps = given (λ p. Broken p.0 p.1) (name_and exception_read ps)
 made_by LaterWord ps = given Later (one_name ps)
 made_by LastWord ps = given Last (one_name ps)
 made_by PairWord ps = given (λ p. Pair p.0 p.1) (two_names ps)
+made_by EmptyWord ps = given (λ p. OnEmpty p.0 p.1) (two_names ps)
 
 abbrev pub combined_by : Combiner → List (List ℕ) → Option Command
 combined_by ThenWord ps = given (λ p. Then p.0 p.1.0 p.1.1.0 p.1.1.1) (name_and (name_and two_steps) ps)
@@ -177,6 +189,11 @@ used_by FulfilWord ps = given (λ p. Fulfil p.0 p.1) (name_and words_read ps)
 used_by RejectWord ps = given (λ p. Reject p.0 p.1) (name_and exception_read ps)
 used_by DropCellWord ps = given DropCell (one_name ps)
 used_by DetachWord ps = given Detach (one_name ps)
+used_by SetWord ps = given (λ p. NewSet p.0 p.1) (name_and one_step ps)
+used_by ClearWord ps = given Clear (one_name ps)
+used_by CancelerWord ps = given NewCanceler (one_name ps)
+used_by CancelWord ps = given Cancel (one_name ps)
+used_by DropWord ps = given Drop (one_name ps)
 
 -- ---- lines
 

@@ -12,7 +12,7 @@ use Rattle.kj_base.specs.declared.endings.Ending.{Ending}
 use Rattle.kj_base.specs.declared.endings.Ending.TheVariants.{Value, Throw, Promise, Input}
 use Rattle.kj_model.specs.Text.{kind_text}
 use Rattle.promise_commands.specs.declared.command.Command.{Command}
-use Rattle.promise_commands.specs.declared.command.Command.TheVariants.{Now, Broken, Later, Last, Pair, Then, Chain, Eager, Fork, Branch, Race, All, Fast, Fulfil, Reject, DropCell, Detach}
+use Rattle.promise_commands.specs.declared.command.Command.TheVariants.{Now, Broken, Later, Last, Pair, Then, Chain, Eager, Fork, Branch, Race, All, Fast, Fulfil, Reject, DropCell, Detach, NewSet, OnEmpty, Clear, NewCanceler, Cancel, Drop}
 use Rattle.promise_script.specs.declared.meaning.Meaning.{Meaning}
 use Rattle.promise_script.specs.declared.meaning.Meaning.TheVariants.{Nothing, Limits as LimitsLine, Do, Turn, Run, Step, Close}
 
@@ -50,6 +50,12 @@ command_words (Fulfil cell value) = codes "fulfil" ∷ name_word cell ∷ map de
 command_words (Reject cell exception) = codes "reject" ∷ name_word cell ∷ exception_words exception
 command_words (DropCell cell) = codes "dropcell" ∷ name_word cell ∷ []
 command_words (Detach source) = codes "detach" ∷ name_word source ∷ []
+command_words (NewSet group error) = codes "set" ∷ name_word group ∷ step_word error ∷ []
+command_words (OnEmpty name group) = codes "empty" ∷ name_word name ∷ name_word group ∷ []
+command_words (Clear group) = codes "clear" ∷ name_word group ∷ []
+command_words (NewCanceler canceler) = codes "canceler" ∷ name_word canceler ∷ []
+command_words (Cancel canceler) = codes "cancel" ∷ name_word canceler ∷ []
+command_words (Drop name) = codes "drop" ∷ name_word name ∷ []
 
 -- the words of a body's last line
 abbrev pub ending_words : Ending → List (List ℕ)
@@ -101,6 +107,12 @@ CommandFits (Fulfil cell value) = NameFits cell × WordsFit value
 CommandFits (Reject cell exception) = NameFits cell × (exception.code < 2 ^ 32)
 CommandFits (DropCell cell) = NameFits cell
 CommandFits (Detach source) = NameFits source
+CommandFits (NewSet group error) = NameFits group × StepFits error
+CommandFits (OnEmpty name group) = NameFits name × NameFits group
+CommandFits (Clear group) = NameFits group
+CommandFits (NewCanceler canceler) = NameFits canceler
+CommandFits (Cancel canceler) = NameFits canceler
+CommandFits (Drop name) = NameFits name
 
 abbrev pub EndingFits : Ending → Type 0
 EndingFits (Value value) = WordsFit value

@@ -3,7 +3,7 @@ ghost use Rattle.std.specs.Prelude.{◌≡◌, map};
 ghost use Rattle.promise_script.specs.Decode.{made_by, combined_by, used_by};
 
 use crate::parts::{
-    read_broken, read_continued, read_joined, read_one_name, read_raced, read_two_names,
+    read_broken, read_continued, read_grouped, read_joined, read_one_name, read_raced, read_two_names,
     read_valued,
 };
 use crate::verbs::{Combiner, Maker, User};
@@ -33,6 +33,10 @@ pub fn read_made(maker: Maker, parts: &[&[u8]]) -> Option<Command>
         Maker::Pair => {
             let (name, cell) = read_two_names(parts)?;
             Some(Command::Pair { name, cell })
+        }
+        Maker::Empty => {
+            let (name, group) = read_two_names(parts)?;
+            Some(Command::OnEmpty { name, group })
         }
     }
 }
@@ -115,6 +119,26 @@ pub fn read_used(user: User, parts: &[&[u8]]) -> Option<Command>
         User::Detach => {
             let source = read_one_name(parts)?;
             Some(Command::Detach { source })
+        }
+        User::Set => {
+            let (group, error) = read_grouped(parts)?;
+            Some(Command::NewSet { group, error })
+        }
+        User::Clear => {
+            let group = read_one_name(parts)?;
+            Some(Command::Clear { group })
+        }
+        User::Canceler => {
+            let canceler = read_one_name(parts)?;
+            Some(Command::NewCanceler { canceler })
+        }
+        User::Cancel => {
+            let canceler = read_one_name(parts)?;
+            Some(Command::Cancel { canceler })
+        }
+        User::Drop => {
+            let name = read_one_name(parts)?;
+            Some(Command::Drop { name })
         }
     }
 }

@@ -1,6 +1,6 @@
 //! What stands behind the first word of a line.
 ghost use Rattle.std.specs.Prelude.{◌≡◌, map};
-ghost use Rattle.promise_script.specs.Decode.{one_name, two_names, two_steps, name_and, exception_read, words_read, names_read};
+ghost use Rattle.promise_script.specs.Decode.{one_name, two_names, one_step, two_steps, name_and, exception_read, words_read, names_read};
 
 use crate::fields::{read_kind, read_name, read_names, read_number, read_step, read_words};
 use kj_base::{Exception, Name, StepId, Words};
@@ -28,6 +28,17 @@ pub fn read_two_names(parts: &[&[u8]]) -> Option<(Name, Name)>
             Some((first, second))
         }
         [_, _, _, ..] => None,
+    }
+}
+
+// The step for an exception.
+fn read_one_step(parts: &[&[u8]]) -> Option<Option<StepId>>
+    ensures { result ≡ one_step (map (λ w. w.now) parts.now) }
+{
+    match parts {
+        [] => None,
+        [step] => read_step(step),
+        [_, _, ..] => None,
     }
 }
 
@@ -86,6 +97,20 @@ pub fn read_broken(parts: &[&[u8]]) -> Option<(Name, Exception)>
             let name = read_name(name)?;
             let exception = read_exception(rest)?;
             Some((name, exception))
+        }
+    }
+}
+
+/// A set's name and its step.
+pub fn read_grouped(parts: &[&[u8]]) -> Option<(Name, Option<StepId>)>
+    ensures { result ≡ name_and one_step (map (λ w. w.now) parts.now) }
+{
+    match parts {
+        [] => None,
+        [name, rest @ ..] => {
+            let name = read_name(name)?;
+            let step = read_one_step(rest)?;
+            Some((name, step))
         }
     }
 }

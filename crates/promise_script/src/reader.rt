@@ -40,14 +40,8 @@ impl From<NoMemory> for ReadRefused {
 fn is_unbuilt_command(word: &[u8]) -> bool
     ensures { result ≡ unbuilt_command word.now }
 {
-    word == b"set".as_slice()
-        || word == b"add".as_slice()
-        || word == b"clear".as_slice()
-        || word == b"empty".as_slice()
-        || word == b"canceler".as_slice()
+    word == b"add".as_slice()
         || word == b"wrap".as_slice()
-        || word == b"cancel".as_slice()
-        || word == b"drop".as_slice()
         || word == b"ask".as_slice()
         || word == b"begin".as_slice()
         || word == b"stop".as_slice()

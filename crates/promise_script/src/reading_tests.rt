@@ -88,14 +88,8 @@ fn tells_the_bad_line(rt: HostRuntime) -> Result<(), Fail> {
 #[test]
 fn tells_what_is_not_built(rt: HostRuntime) -> Result<(), Fail> {
     for word in [
-        b"set 1 -".as_slice(),
-        b"add",
-        b"clear ",
-        b"empty 1 2 3",
-        b"canceler 1",
+        b"add".as_slice(),
         b"wrap x",
-        b"cancel 1",
-        b"drop 1",
         b"ask 1 2 3 4",
         b"begin 1 2",
         b"stop 1",
@@ -105,9 +99,9 @@ fn tells_what_is_not_built(rt: HostRuntime) -> Result<(), Fail> {
         assert!(rt; fault(rt.alloc(), word) == not_built(1));
     }
     for (text, refused) in [
-        (b"turn\nset 1 -\nbogus\n".as_slice(), not_built(2)),
-        (b"step 1\nset 1 -\ninput\n", not_built(2)),
-        (b"step 1\nset 1 -", not_built(2)),
+        (b"turn\nadd 1 2\nbogus\n".as_slice(), not_built(2)),
+        (b"step 1\nadd 1 2\ninput\n", not_built(2)),
+        (b"step 1\nadd 1 2", not_built(2)),
         (b"step 1\ninput\nwait 1 2\n", not_built(3)),
         (b"step 1\nwait 1 2\ninput\n", bad(2)),
         (b"sets 1\n", bad(1)),

@@ -36,6 +36,13 @@ fn reads_each_line(rt: HostRuntime) -> Result<(), Fail> {
         b"reject 1 disconnected 0",
         b"dropcell 1",
         b"detach 1",
+        b"set 1 -",
+        b"set 1 4294967295",
+        b"empty 1 2",
+        b"clear 1",
+        b"canceler 1",
+        b"cancel 1",
+        b"drop 1",
         b"limits 8 1",
         b"limits 4194304 1048576",
         b"turn",
@@ -83,7 +90,13 @@ fn reads_nothing_else(rt: HostRuntime) -> Result<(), Fail> {
         b"input 1",
         b"promise",
         b"wait 1",
-        b"set 1 -",
+        b"add 1 2",
+        b"set 1",
+        b"set - 1",
+        b"empty 1",
+        b"clear",
+        b"canceler -",
+        b"cancel 1 2",
     ] {
         assert!(rt; !is_line(rt.alloc(), text)?);
     }

@@ -2,7 +2,7 @@
 ghost use Rattle.std.specs.Prelude.{◌≡◌};
 ghost use Rattle.promise_script.specs.Decode.{maker_read, combiner_read, user_read, other_read, verb_read};
 
-/// The commands that make a promise of no other.
+/// The commands that make a promise of no other promise.
 #[derive(Clone, Copy)]
 pub enum Maker {
     Now,
@@ -10,6 +10,7 @@ pub enum Maker {
     Later,
     Last,
     Pair,
+    Empty,
 }
 
 /// The commands that make a promise of others.
@@ -32,6 +33,11 @@ pub enum User {
     Reject,
     DropCell,
     Detach,
+    Set,
+    Clear,
+    Canceler,
+    Cancel,
+    Drop,
 }
 
 /// What a line that means something begins with.
@@ -67,6 +73,9 @@ pub fn read_maker(word: &[u8]) -> Option<Maker>
     }
     if word == b"pair".as_slice() {
         return Some(Maker::Pair);
+    }
+    if word == b"empty".as_slice() {
+        return Some(Maker::Empty);
     }
     None
 }
@@ -115,6 +124,21 @@ pub fn read_user(word: &[u8]) -> Option<User>
     }
     if word == b"detach".as_slice() {
         return Some(User::Detach);
+    }
+    if word == b"set".as_slice() {
+        return Some(User::Set);
+    }
+    if word == b"clear".as_slice() {
+        return Some(User::Clear);
+    }
+    if word == b"canceler".as_slice() {
+        return Some(User::Canceler);
+    }
+    if word == b"cancel".as_slice() {
+        return Some(User::Cancel);
+    }
+    if word == b"drop".as_slice() {
+        return Some(User::Drop);
     }
     None
 }

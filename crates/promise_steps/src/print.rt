@@ -98,6 +98,10 @@ fn print_cause(text: &mut Bytes, refused: Refused) -> Result<(), NoMemory>
             print_number(text, u64::from(name.0))
         }
         Refused::Full => text.extend(b" full"),
+        Refused::Busy(name) => {
+            text.extend(b" busy")?;
+            print_number(text, u64::from(name.0))
+        }
         Refused::WrongKind(name) => {
             text.extend(b" wrong")?;
             print_number(text, u64::from(name.0))

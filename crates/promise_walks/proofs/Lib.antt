@@ -11,3 +11,4 @@ pub mod Seen
 pub mod Sought
 pub mod Summed
 pub mod Unlisted
+pub mod Unnamed

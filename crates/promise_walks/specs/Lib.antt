@@ -5,4 +5,5 @@ pub mod Sums
 pub mod Values
 pub mod Looks
 pub mod Climbs
+pub mod Hubs
 pub mod Falls

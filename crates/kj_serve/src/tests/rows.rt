@@ -5,7 +5,7 @@ use std::alloc::Global;
 use std::test::Fail;
 
 // Octets, and the whole log.
-const WHOLE: [(&[u8], &[u8]); 6] = [
+const WHOLE: [(&[u8], &[u8]); 15] = [
     (
         b"later 1\nthen 2 1 10 -\ndetach 2\nlater 3\nthen 4 3 11 -\ndetach 4\nrun 2\n",
         b"free 1\nrun 2 10 value\nfree 2\nfree 3\nfree 4\nrun 5 11 value\nfree 5\nfree 6\n",
@@ -32,6 +32,46 @@ const WHOLE: [(&[u8], &[u8]); 6] = [
     (
         b"pair 1 2\nthen 3 1 10 -\ndetach 3\ndropcell 2\nrun 1\n",
         b"free 1\nfree 2\nfree 3\n",
+    ),
+    // Sets and cancelers without members: a set is empty at once.
+    (
+        b"set 1 -\nset 1 7\nempty 2 1\nempty 2 1\nclear 1\nclear 2\ncancel 1\ncanceler 5\ncancel 5\nclear 9\nthen 3 2 10 -\ndetach 3\nrun 1\n",
+        b"refused 2 taken 1\nrefused 4 taken 2\nrefused 6 wrong 2\nrefused 7 wrong 1\nrefused 10 unknown 9\nfree 1\nrun 2 10 value\nfree 2\nfree 3\n",
+    ),
+    (
+        b"step 10\nset 5 -\nempty 6 5\npromise 6\nlater 1\nchain 2 1 10 -\ndetach 2\nrun 2\n",
+        b"free 1\nrun 2 10 value\nfree 2\nfree 3\nfree 5\nfree 4\n",
+    ),
+    // A promise that waits goes, and its fulfiller stays, which can't be dropped so.
+    (
+        b"pair 1 2\ndrop 1\nfulfil 2 7\ndrop 2\ndrop 1\n",
+        b"free 1\nrefused 4 wrong 2\nrefused 5 unknown 1\n",
+    ),
+    // A promise goes with all below it.
+    (
+        b"later 1\nthen 2 1 10 -\ndrop 2\nturn\n",
+        b"free 1\nfree 2\nidle\n",
+    ),
+    // A hub without branches goes with its name, and another with its last branch.
+    (b"later 1\nfork 2 1\ndrop 2\n", b"free 1\nfree 2\n"),
+    (
+        b"later 1\nfork 2 1\nbranch 3 2\nbranch 4 2\ndrop 2\ndrop 3\ndrop 4\n",
+        b"free 3\nfree 1\nfree 2\nfree 4\n",
+    ),
+    // Sets and cancelers go without a word.
+    (
+        b"set 1 -\ncanceler 2\ndrop 1\ndrop 2\nset 2 -\ndrop 1\n",
+        b"refused 6 unknown 1\n",
+    ),
+    // A step drops a promise that waits.
+    (
+        b"step 10\ndrop 5\nvalue\npair 5 6\nlater 1\nthen 2 1 10 -\ndetach 2\nrun 1\n",
+        b"free 2\nrun 3 10 value\nfree 1\nfree 3\nfree 4\n",
+    ),
+    // A step can't drop the promise whose event fires.
+    (
+        b"step 10\ndrop 3\nvalue\nlater 1\nthen 2 1 10 -\neager 3 2\nrun 1\nthen 4 3 11 12\ndetach 4\nrun 1\n",
+        b"free 1\nrun 2 10 value\nfree 2\nfree 3\nrun 4 12 throw failed 9\nfree 4\nfree 5\n",
     ),
 ];
 

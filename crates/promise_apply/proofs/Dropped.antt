@@ -1,0 +1,203 @@
+-- What a Drop is refused for, and what it does.
+use Rattle.std.proofs.Common.{◌≡◌, ◌∙◌, ℕ, List, [], ◌∷◌, ◌++◌, Option, None, Some, Bool, true, false, refl, sym, ap, subst, length, drop, reverse}
+use Rattle.std.specs.Prelude.{◌&&◌, ◌||◌, Result, IsErrAnd}
+use Rattle.std.specs.List.{list_any}
+use Rattle.std.proofs.lemmas.Bool.{false≢true}
+use Rattle.std.proofs.lemmas.List.{append-nil}
+use Rattle.std.proofs.Math.Seq.{drop-length}
+use Rattle.kj_base.specs.Commands.{Command, Action, Drop}
+use Rattle.kj_base.specs.Record.{Item}
+use Rattle.kj_model.specs.Nodes.{form_at, is_in}
+use Rattle.kj_model.specs.World.{World, State, Held, Promise, HubOf, Group, Canceler, held_at}
+use Rattle.kj_model.specs.Changes.{silent, unnamed}
+use Rattle.kj_model.specs.Free.{Guard, Holding, usual}
+use Rattle.kj_model.specs.Effects.{cleared_in, dropped_held, each_cancelled, effect, wraps_of}
+use Rattle.kj_model.specs.Uses.{Use, use_as, IsDroppable, has_role}
+use Rattle.kj_model.specs.Apply.{Refused, Busy, Full, Stopped, apply, applied, refusal, is_busy, is_busy_at, is_free_of, is_unsettled_wrap, would_free, would_settle}
+use Rattle.kj_ownership.proofs.Answers.{drop_hub_would_free, drop_would_free}
+use Rattle.promise_commands.specs.Refusals.{refused_of, refusal_of}
+use Rattle.promise_commands.specs.declared.refused.Refused.{Refused as RefusedCase}
+use Rattle.promise_names.specs.declared.names.Held.TheVariants.{Promise as PromiseCase, CellOf as CellCase, AskCell as AskCase, HubOf as HubCase, Group as GroupCase, Canceler as CancelerCase, RequestOf as RequestCase}
+use Rattle.kj_base.specs.declared.nodes.Link.{Link}
+use Rattle.kj_base.specs.declared.numbers.StepId.{StepId}
+use Rattle.promise_names.specs.Held.{SeesHeld, held_shown, members_of}
+use Rattle.promise_walks.specs.Walks.{Does}
+use Rattle.promise_walks.proofs.Composed.{tells_none}
+use Rattle.promise_apply.specs.Applying.{Applies, DoesCommand, IsApplied, Rule, setting_of, lacks_room, or_else, refused_first, refused_if, names_refused}
+use Rattle.promise_apply.specs.Dropping.{IsHolder, frees_firing, hub_frees_firing}
+use Rattle.promise_apply.proofs.Refused.{none_first, or_else_twice, passed_names, passed_on, refusal_when}
+use Rattle.promise_apply.proofs.Passed.{first_role}
+use Rattle.promise_apply.proofs.Idle.{wraps_none}
+
+-- ---- refusals
+
+-- why a Drop is refused: by its name, because it is Busy, because it is Full
+refusal_parts : (rule : Rule) (answer : List Item → ℕ → Option Action) (inside : Bool) (name : ℕ) (s : State)
+    → refusal (setting_of rule answer) inside (Drop name) s ≡ or_else (refused_first (use_as IsDroppable name ∷ []) s.world) (or_else (refused_if (is_busy (Drop name) s) (Busy name)) (refused_if (lacks_room rule (use_as IsDroppable name ∷ []) [] s.world) Full))
+refusal_parts rule answer inside name s =
+    let uses = use_as IsDroppable name ∷ [] in
+    refusal_when (is_busy (Drop name) s) rule answer inside (Drop name) s uses [] refl refl refl refl
+    ∙ or_else_twice (refused_if s.world.stopped Stopped) (names_refused uses s.world) (or_else (refused_if (is_busy (Drop name) s) (Busy name)) (refused_if (lacks_room rule uses [] s.world) Full))
+
+-- by its name
+pub refused_named : (rule : Rule) (answer : List Item → ℕ → Option Action) (inside : Bool) (name : ℕ) (r : Refused) (s : State) → Some r ≡ refused_first (use_as IsDroppable name ∷ []) s.world
+    → refusal (setting_of rule answer) inside (Drop name) s ≡ Some r
+refused_named rule answer inside name r s first =
+    refusal_parts rule answer inside name s
+    ∙ ap (λ (o : Option Refused). or_else o (or_else (refused_if (is_busy (Drop name) s) (Busy name)) (refused_if (lacks_room rule (use_as IsDroppable name ∷ []) [] s.world) Full))) (sym first)
+
+-- its name passes
+pub refused_behind : (rule : Rule) (answer : List Item → ℕ → Option Action) (inside busy : Bool) (name : ℕ) (s : State) → refused_first (use_as IsDroppable name ∷ []) s.world ≡ None → is_busy (Drop name) s ≡ busy
+    → refusal (setting_of rule answer) inside (Drop name) s ≡ or_else (refused_if busy (Busy name)) (refused_if (lacks_room rule (use_as IsDroppable name ∷ []) [] s.world) Full)
+refused_behind rule answer inside busy name s first is =
+    refusal_parts rule answer inside name s
+    ∙ ap (λ (o : Option Refused). or_else o (or_else (refused_if (is_busy (Drop name) s) (Busy name)) (refused_if (lacks_room rule (use_as IsDroppable name ∷ []) [] s.world) Full))) first
+    ∙ ap (λ (b : Bool). or_else (refused_if b (Busy name)) (refused_if (lacks_room rule (use_as IsDroppable name ∷ []) [] s.world) Full)) is
+
+-- what the count says of the use that is shown
+pub tested_count : (rule : Rule) (name : ℕ) (shown : Use) (w : World) {o : Option Refused} → shown ≡ use_as IsDroppable name
+    → (refused_first (shown ∷ []) w ≡ None → o ≡ refused_if (lacks_room rule (shown ∷ []) [] w) Full)
+    → refused_first (use_as IsDroppable name ∷ []) w ≡ None → o ≡ refused_if (lacks_room rule (use_as IsDroppable name ∷ []) [] w) Full
+tested_count rule name shown w {o} is says passes =
+    subst (λ (u : Use). (refused_first (u ∷ []) w ≡ None → o ≡ refused_if (lacks_room rule (u ∷ []) [] w) Full)) is says passes
+
+-- ---- whether it is Busy
+
+tree_busy_at : (o : Option ℕ) (name root : ℕ) (s : State) → held_at name s.world.names ≡ Some (Promise root) → is_busy_at o (Drop name) s ≡ frees_firing o root (unnamed name s.world)
+tree_busy_at None name root s at = refl
+tree_busy_at (Some f) name root s at =
+    ap (λ (h : Option Held). (is_in f (wraps_of h) && is_unsettled_wrap (form_at f s.world.nodes)) || would_free f (Drop name) s) at
+    ∙ drop_would_free f name root s at
+
+-- a promise
+pub tree_busy : (name root : ℕ) (s : State) → held_at name s.world.names ≡ Some (Promise root) → is_busy (Drop name) s ≡ frees_firing s.world.firing root (unnamed name s.world)
+tree_busy name root s at = tree_busy_at s.world.firing name root s at
+
+hub_busy_at : (o : Option ℕ) (name hub : ℕ) (s : State) → held_at name s.world.names ≡ Some (HubOf hub) → is_busy_at o (Drop name) s ≡ hub_frees_firing o hub (unnamed name s.world)
+hub_busy_at None name hub s at = refl
+hub_busy_at (Some f) name hub s at =
+    ap (λ (h : Option Held). (is_in f (wraps_of h) && is_unsettled_wrap (form_at f s.world.nodes)) || would_free f (Drop name) s) at
+    ∙ drop_hub_would_free f name hub s at
+
+-- a hub
+pub hub_busy : (name hub : ℕ) (s : State) → held_at name s.world.names ≡ Some (HubOf hub) → is_busy (Drop name) s ≡ hub_frees_firing s.world.firing hub (unnamed name s.world)
+hub_busy name hub s at = hub_busy_at s.world.firing name hub s at
+
+cons_none : (n : ℕ) (ns : List ℕ) → ◌≡◌ {A = List ℕ} (n ∷ ns) [] → ⊥
+cons_none n ns e = cc
+
+holder_dropped : (guard : Guard) (name : ℕ) (o : Option Held) (s : State) → held_at name s.world.names ≡ o → IsHolder o → members_of o ≡ [] → dropped_held guard name o s ≡ silent (unnamed name) s
+holder_dropped guard name (Some (Group error [] empty)) s at is none = ap (λ (h : Option Held). silent (unnamed name) (cleared_in guard name h s)) at
+holder_dropped guard name (Some (Group error (task ∷ tasks) empty)) s at is none = absurd (cons_none task tasks none)
+holder_dropped guard name (Some (Canceler [])) s at is none = ap (λ (h : Option Held). silent (unnamed name) (each_cancelled guard (reverse (wraps_of h)) s)) at
+holder_dropped guard name (Some (Canceler (wrap ∷ wraps))) s at is none = absurd (cons_none wrap wraps none)
+holder_dropped guard name None s at is none = absurd is
+holder_dropped guard name (Some _) s at is none = absurd is
+
+-- a set or a canceler without members goes alone
+pub holder_goes : (guard : Guard) (name : ℕ) (s : State) → IsHolder (held_at name s.world.names) → members_of (held_at name s.world.names) ≡ [] → effect guard (Drop name) s ≡ silent (unnamed name) s
+holder_goes guard name s is none = holder_dropped guard name (held_at name s.world.names) s refl is none
+
+holder_calm_at : (firing : Option ℕ) (name : ℕ) (s : State) → IsHolder (held_at name s.world.names) → members_of (held_at name s.world.names) ≡ [] → is_busy_at firing (Drop name) s ≡ false
+holder_calm_at None name s is none = refl
+holder_calm_at (Some f) name s is none =
+    ap (λ (wraps : List ℕ). (is_in f wraps && is_unsettled_wrap (form_at f s.world.nodes)) || would_free f (Drop name) s) (wraps_none (held_at name s.world.names) none)
+    ∙ ap (λ (t : State). list_any (is_free_of f) (drop (length s.past) t.past)) (holder_goes (Holding []) name s is none)
+    ∙ ap (list_any (is_free_of f)) (drop-length s.past)
+
+-- and is never Busy
+pub holder_calm : (name : ℕ) (s : State) → IsHolder (held_at name s.world.names) → members_of (held_at name s.world.names) ≡ [] → is_busy (Drop name) s ≡ false
+holder_calm name s is none = holder_calm_at s.world.firing name s is none
+
+-- ---- what is told
+
+-- a command that is refused tells nothing
+pub refused_does : (Old New : World → Type 0) (rule : Rule) (r : Refused) (c : Command) (told : Option (List Item)) → ((w : World) → Old w → New w)
+    → ((answer : List Item → ℕ → Option Action) (inside : Bool) (s : State) → Old s.world → refusal (setting_of rule answer) inside c s ≡ Some r) → DoesCommand Old New rule (Some r) c told told
+refused_does Old New rule r c told keep why = record {
+  items = [];
+  told = tells_none told;
+  applied = λ answer inside s old.
+      subst (IsApplied New (s.past ++ []) (Some r)) (sym (ap (λ (o : Option Refused). applied o c s) (why answer inside s old)))
+      (record { reply = refl; stands = keep s.world old; past_is = sym (append-nil s.past) });
+}
+
+abbrev with_none : State → State × Option Refused
+with_none s = (s, None)
+
+-- one that isn't tells what it frees
+pub done_does : (Old Mid New : World → Type 0) (rule : Rule) (c : Command) (change : World → World) (free : State → State) (a b : Option (List Item))
+    → ((answer : List Item → ℕ → Option Action) (inside : Bool) (s : State) → Old s.world → refusal (setting_of rule answer) inside c s ≡ None)
+    → ((s : State) → Old s.world → effect (usual s.world) c s ≡ free (silent change s)) → ((w : World) → Old w → Mid (change w)) → Does Mid New free (λ s. s) a b → DoesCommand Old New rule None c a b
+done_does Old Mid New rule c change free a b why same moved done = record {
+  items = done.items;
+  told = done.told;
+  applied = λ answer inside s old.
+      let r = done.moves (silent change s) (moved s.world old) in
+      let what : apply (setting_of rule answer) inside c s ≡ (r.state, None) =
+      ap (λ (o : Option Refused). applied o c s) (why answer inside s old) ∙ ap (λ (t : State). with_none t) (same s old ∙ sym r.ends) in
+      subst (IsApplied New (s.past ++ done.items) None) (sym what) (record { reply = refl; stands = r.stands; past_is = r.past_is });
+}
+
+-- one that is refused so
+pub err_does : (Old New : World → Type 0) (rule : Rule) (r : Result (Unit {0}) RefusedCase) (e : RefusedCase) (c : Command) (told : Option (List Item)) → IsErrAnd r (λ x. x ≡ e) → ((w : World) → Old w → New w)
+    → ((answer : List Item → ℕ → Option Action) (inside : Bool) (s : State) → Old s.world → refusal (setting_of rule answer) inside c s ≡ Some (refused_of e)) → DoesCommand Old New rule (refusal_of r) c told told
+err_does Old New rule r e c told so keep why =
+    subst (λ (o : Option Refused). DoesCommand Old New rule o c told told) (sym (passed_on r e so)) (refused_does Old New rule (refused_of e) c told keep why)
+
+-- a set or a canceler that is refused
+pub holder_full : (Old : World → Type 0) (rule : Rule) (r : Result (Unit {0}) RefusedCase) (e : RefusedCase) (name : ℕ) → IsErrAnd r (λ x. x ≡ e) → ((answer : List Item → ℕ → Option Action) (inside : Bool) (s : State) → Old s.world → refusal (setting_of rule answer) inside (Drop name) s ≡ Some (refused_of e)) → Applies Old Old rule (refusal_of r) (Drop name)
+holder_full Old rule r e name so why answer inside s old =
+    subst (λ (o : Option Refused). IsApplied Old s.past o (apply (setting_of rule answer) inside (Drop name) s)) (sym (passed_on r e so))
+    (subst (IsApplied Old s.past (Some (refused_of e))) (sym (ap (λ (o : Option Refused). applied o (Drop name) s) (why answer inside s old))) (record { reply = refl; stands = old; past_is = refl }))
+
+-- and one that goes
+pub holder_done : (Old New : World → Type 0) (rule : Rule) (name : ℕ) → ((answer : List Item → ℕ → Option Action) (inside : Bool) (s : State) → Old s.world → refusal (setting_of rule answer) inside (Drop name) s ≡ None)
+    → ((w : World) → Old w → IsHolder (held_at name w.names)) → ((w : World) → Old w → members_of (held_at name w.names) ≡ []) → ((w : World) → Old w → New (unnamed name w)) → Applies Old New rule None (Drop name)
+holder_done Old New rule name why is none new answer inside s old =
+    let what : apply (setting_of rule answer) inside (Drop name) s ≡ (silent (unnamed name) s, None) =
+    ap (λ (o : Option Refused). applied o (Drop name) s) (why answer inside s old) ∙ ap (λ (t : State). with_none t) (holder_goes (usual s.world) name s (is s.world old) (none s.world old)) in
+    subst (IsApplied New s.past None) (sym what) (record { reply = refl; stands = new s.world old; past_is = refl })
+
+-- ---- what a name is seen to hold
+
+pub sees_promise : (root : Link) (o : Option Held) → SeesHeld (Some (PromiseCase root)) o → o ≡ Some (Promise root.number.0)
+sees_promise root None sees = absurd sees
+sees_promise root (Some seen) sees = ap (λ (h : Held). Some h) sees.is
+
+pub sees_hub : (hub : Link) (o : Option Held) → SeesHeld (Some (HubCase hub)) o → o ≡ Some (HubOf hub.number.0)
+sees_hub hub None sees = absurd sees
+sees_hub hub (Some seen) sees = ap (λ (h : Held). Some h) sees.is
+
+pub sees_group : (error : Option StepId) (empty : Option Link) (o : Option Held) → SeesHeld (Some (GroupCase error empty)) o → IsHolder o
+sees_group error empty None sees = absurd sees
+sees_group error empty (Some seen) sees = subst (λ (h : Held). IsHolder (Some h)) (sym sees.is) tt
+
+pub sees_canceler : (o : Option Held) → SeesHeld (Some CancelerCase) o → IsHolder o
+sees_canceler None sees = absurd sees
+sees_canceler (Some seen) sees = subst (λ (h : Held). IsHolder (Some h)) (sym sees.is) tt
+
+-- a name that passes can be dropped
+pub droppable : (name : ℕ) (w : World) → refused_first (use_as IsDroppable name ∷ []) w ≡ None → has_role IsDroppable (held_at name w.names) ≡ true
+droppable name w first =
+    first_role IsDroppable name [] w (passed_names (use_as IsDroppable name ∷ []) w (none_first (refused_if w.stopped Stopped) (names_refused (use_as IsDroppable name ∷ []) w) first).1)
+
+pub no_cell : (cell : Link) (o : Option Held) → SeesHeld (Some (CellCase cell)) o → has_role IsDroppable o ≡ true → ⊥
+no_cell cell None sees role = sees
+no_cell cell (Some seen) sees role = false≢true (ap (λ (h : Held). has_role IsDroppable (Some h)) (sym sees.is) ∙ role)
+
+pub no_ask : (cell : Link) (is_taken : Bool) (o : Option Held) → SeesHeld (Some (AskCase cell is_taken)) o → has_role IsDroppable o ≡ true → ⊥
+no_ask cell is_taken None sees role = sees
+no_ask cell is_taken (Some seen) sees role = false≢true (ap (λ (h : Held). has_role IsDroppable (Some h)) (sym sees.is) ∙ role)
+
+pub no_request : (node : Option Link) (o : Option Held) → SeesHeld (Some (RequestCase node)) o → has_role IsDroppable o ≡ true → ⊥
+no_request node None sees role = sees
+no_request node (Some seen) sees role = false≢true (ap (λ (h : Held). has_role IsDroppable (Some h)) (sym sees.is) ∙ role)
+
+pub no_nothing : (o : Option Held) → SeesHeld None o → has_role IsDroppable o ≡ true → ⊥
+no_nothing None sees role = false≢true role
+no_nothing (Some seen) sees role = sees
+
+-- so it does as well as anything
+pub never_does : (Old New : World → Type 0) (rule : Rule) (o : Option Refused) (c : Command) (told : Option (List Item)) → ((w : World) → Old w → ⊥) → DoesCommand Old New rule o c told told
+never_does Old New rule o c told never = record { items = []; told = tells_none told; applied = λ answer inside s old. absurd (never s.world old) }

@@ -1,0 +1,6 @@
+use Rattle.std.proofs.Common.{subst}
+use Rattle.promise_apply.specs.Applying.{IsSilent}
+use Rattle.promise_apply.proofs.applying.apply_silent.Goals as goal
+
+pub returns-in-Drop-clause-applied : goal.returns-in-Drop-clause-applied
+returns-in-Drop-clause-applied g c = absurd (subst IsSilent c.in-Drop.is c.requires.silent)
