@@ -1,6 +1,7 @@
 //! Freeing a tree, with hubs and branches, by a stack.
 ghost use Rattle.std.specs.Prelude.{◌≡◌, ◌<◌, ◌≤◌, ◌+◌, ◌-◌, ◌++◌, [], ◌∷◌, ℕ, Some, IsSome, true, false, length, vec_len, vec_capacity};
-ghost use Rattle.kj_base.specs.Record.{Tells, Free};
+ghost use Rattle.kj_base.specs.Record.{Free};
+ghost use Rattle.promise_commands.specs.Telling.{Hears};
 ghost use Rattle.kj_model.specs.World.{World};
 ghost use Rattle.kj_model.specs.Nodes.{form_at};
 ghost use Rattle.kj_model.specs.Changes.{gone_world};
@@ -129,7 +130,7 @@ fn open<N: Nodes, M: Names>(
 fn close<N: Nodes, M: Names, S: Steps>(nodes: &mut N, names: &mut M, frame: Frame, steps: &mut S)
     requires unlisted { N.is_listed nodes.old frame.node.number.0 ≡ false }
     ensures stands { (w : World) → Both (N.stands nodes.old) (M.stands names.old) w → Both (N.stands nodes.new) (M.stands names.new) (gone_world frame.node.number.0 (left_world frame.node.number.0 frame.leaving w)) }
-    ensures told { Tells (S.told steps.old) (Free frame.node.number.0 ∷ []) (S.told steps.new) }
+    ensures told { Hears (S.told steps.old) (Free frame.node.number.0 ∷ []) (S.told steps.new) }
     ensures lacks { S.lacks steps.new ≡ S.lacks steps.old }
     ensures taken { OnlyFalls (N.is_taken nodes.old) (N.is_taken nodes.new) }
     ensures listed { OnlyFalls (N.is_listed nodes.old) (N.is_listed nodes.new) }
