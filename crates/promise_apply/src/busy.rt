@@ -12,7 +12,8 @@ use promise_walks::{Frame, unname_hub, would_free};
 /// Whether the node whose event fires would go with a tree.
 pub(crate) fn frees_firing<N: Nodes>(nodes: &mut N, frames: &mut Vec<Frame>, root: Link) -> bool
     requires room { N.slots nodes.old + 1 ≤ vec_capacity frames.old }
-    ensures found { (w : World) → N.stands nodes.old w → result ≡ frees_firing w.firing root.number.0 w }
+    ensures found { (w : World) → N.stands nodes.old w
+        → result ≡ frees_firing w.firing root.number.0 w }
     ensures stands { (w : World) → N.stands nodes.old w → N.stands nodes.new w }
     ensures taken { OnlyFalls (N.is_taken nodes.old) (N.is_taken nodes.new) }
     ensures plain { OnlyRises (N.is_plain nodes.old) (N.is_plain nodes.new) }
@@ -29,7 +30,8 @@ pub(crate) fn frees_firing<N: Nodes>(nodes: &mut N, frames: &mut Vec<Frame>, roo
 // The same with a hub that has no name, where it has no branch.
 fn unnamed_frees_firing<N: Nodes>(nodes: &mut N, frames: &mut Vec<Frame>, hub: Link) -> bool
     requires room { N.slots nodes.old + 1 ≤ vec_capacity frames.old }
-    ensures found { (w : World) → N.stands nodes.old w → result ≡ (is_unreferenced (form_at hub.number.0 w.nodes) && frees_firing w.firing hub.number.0 w) }
+    ensures found { (w : World) → N.stands nodes.old w → result
+        ≡ (is_unreferenced (form_at hub.number.0 w.nodes) && frees_firing w.firing hub.number.0 w) }
     ensures stands { (w : World) → N.stands nodes.old w → N.stands nodes.new w }
     ensures taken { OnlyFalls (N.is_taken nodes.old) (N.is_taken nodes.new) }
     ensures plain { OnlyRises (N.is_plain nodes.old) (N.is_plain nodes.new) }
@@ -63,7 +65,8 @@ pub(crate) fn hub_frees_firing<N: Nodes>(
     hub: Link,
 ) -> bool
     requires room { N.slots nodes.old + 1 ≤ vec_capacity frames.old }
-    ensures found { (w : World) → N.stands nodes.old w → result ≡ hub_frees_firing w.firing hub.number.0 w }
+    ensures found { (w : World) → N.stands nodes.old w
+        → result ≡ hub_frees_firing w.firing hub.number.0 w }
     ensures stands { (w : World) → N.stands nodes.old w → N.stands nodes.new w }
     ensures taken { OnlyFalls (N.is_taken nodes.old) (N.is_taken nodes.new) }
     ensures plain { OnlyRises (N.is_plain nodes.old) (N.is_plain nodes.new) }

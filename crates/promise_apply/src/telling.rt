@@ -28,7 +28,9 @@ pub fn apply<N: Nodes, M: Names, S: Steps>(
     requires few { M.count names.old ≤ M.limit names.old }
     requires frames_room { N.slots nodes.old + 1 ≤ vec_capacity frames.old }
     requires search_room { N.slots nodes.old + 1 ≤ vec_capacity search.old }
-    ensures applied { DoesCommand (Both (N.stands nodes.old) (M.stands names.old)) (Both (N.stands nodes.new) (M.stands names.new)) N.rule (refusal_of result) (command_of command.now) (S.told steps.old) (S.told steps.new) }
+    ensures applied { DoesCommand (Both (N.stands nodes.old) (M.stands names.old))
+        (Both (N.stands nodes.new) (M.stands names.new)) N.rule (refusal_of result)
+        (command_of command.now) (S.told steps.old) (S.told steps.new) }
     ensures lacks { S.lacks steps.new ≡ S.lacks steps.old }
     ensures free { AreFree (M.roots names.new) (N.is_taken nodes.new) (N.next nodes.new) }
     ensures few { M.count names.new ≤ M.limit names.new }
