@@ -4,7 +4,7 @@ ghost use Rattle.kj_base.specs.Commands.{Command as CommandSeen, Action, step_of
 ghost use Rattle.kj_base.specs.declared.outcomes.Outcome.TheVariants.{Value, Broken as BrokenBy};
 ghost use Rattle.kj_base.specs.Places.{row};
 ghost use Rattle.kj_base.specs.Record.{Item};
-ghost use Rattle.kj_model.specs.World.{World, State};
+ghost use Rattle.kj_model.specs.World.{State};
 ghost use Rattle.kj_model.specs.Nodes.{Ready, parts_of};
 ghost use Rattle.kj_model.specs.Uses.{use_as, new_over, IsNew, IsSource, IsCell, IsHub};
 ghost use Rattle.kj_model.specs.Effects.{leaf_built, over_named, over_listening, chain_built, fork_built, branch_built, cell_settled, cell_dropped, detached_built};

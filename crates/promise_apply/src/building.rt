@@ -1,9 +1,8 @@
 //! Commands that build one node.
-ghost use Rattle.std.specs.Prelude.{◌≡◌, ◌+◌, ◌<◌, ◌≤◌, ◌^◌, [], ◌∷◌, ℕ, List, Option, None, Some, Bool, true, false, IsTrue};
+ghost use Rattle.std.specs.Prelude.{◌≡◌, ◌+◌, ◌<◌, ◌≤◌, ◌^◌, [], ◌∷◌, ℕ, List, Option, None, Some, false, IsTrue};
 ghost use Rattle.kj_base.specs.Places.{Row as RowSeen, row};
 ghost use Rattle.kj_model.specs.World.{World, Promise, held_at};
 ghost use Rattle.kj_model.specs.Nodes.{parts_of, form_at, Task};
-ghost use Rattle.kj_model.specs.Changes.{named};
 ghost use Rattle.kj_model.specs.Effects.{leaf_built, over_built, over_named, detached_built};
 ghost use Rattle.promise_nodes.specs.Shown.{shown};
 ghost use Rattle.promise_nodes.specs.Kept.{AreRowsBuilt, OnlyRises, RisesIn, rows_left};

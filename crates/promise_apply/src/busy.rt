@@ -1,5 +1,5 @@
 //! Whether a command would free the node whose event fires.
-ghost use Rattle.std.specs.Prelude.{◌≡◌, ◌≤◌, ◌+◌, ◌∷◌, [], ℕ, ◌&&◌, vec_capacity};
+ghost use Rattle.std.specs.Prelude.{◌≡◌, ◌≤◌, ◌+◌, ◌&&◌, vec_capacity};
 ghost use Rattle.kj_model.specs.World.{World};
 ghost use Rattle.kj_model.specs.Nodes.{form_at};
 ghost use Rattle.promise_nodes.specs.Kept.{OnlyFalls, OnlyRises, is_unreferenced};
@@ -59,11 +59,7 @@ fn hub_form<N: Nodes>(nodes: &N, hub: Link) -> Option<Form>
 }
 
 /// The same with a hub, once it has no name. It has its name again afterwards.
-pub(crate) fn hub_frees_firing<N: Nodes>(
-    nodes: &mut N,
-    frames: &mut Vec<Frame>,
-    hub: Link,
-) -> bool
+pub(crate) fn hub_frees_firing<N: Nodes>(nodes: &mut N, frames: &mut Vec<Frame>, hub: Link) -> bool
     requires room { N.slots nodes.old + 1 ≤ vec_capacity frames.old }
     ensures found { (w : World) → N.stands nodes.old w
         → result ≡ hub_frees_firing w.firing hub.number.0 w }

@@ -1,12 +1,12 @@
 //! Commands on cells.
-ghost use Rattle.std.specs.Prelude.{◌≡◌, ◌+◌, ◌<◌, ◌≤◌, ◌^◌, [], ◌∷◌, ℕ, Option, None, Some, Bool, true, false, IsTrue};
+ghost use Rattle.std.specs.Prelude.{◌≡◌, ◌+◌, ◌<◌, ◌≤◌, ◌^◌, [], ◌∷◌, None, Some, IsTrue};
 ghost use Rattle.kj_base.specs.Places.{row};
 ghost use Rattle.kj_base.specs.declared.outcomes.Outcome.{Outcome};
 ghost use Rattle.kj_model.specs.World.{World, CellOf, held_at};
 ghost use Rattle.kj_model.specs.Outcomes.{fulfiller_dropped};
 ghost use Rattle.kj_model.specs.Effects.{cell_settled, cell_dropped};
 ghost use Rattle.promise_nodes.specs.Kept.{OnlyFalls, OnlyRises};
-ghost use Rattle.promise_names.specs.Held.{AreFree, IsListless};
+ghost use Rattle.promise_names.specs.Held.{AreFree};
 ghost use Rattle.promise_apply.specs.Building.{AreNew, Both, pair_built};
 
 use crate::building::build_leaf;

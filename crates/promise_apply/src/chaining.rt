@@ -1,5 +1,5 @@
 //! Commands that build a node which listens, over the tree of a source.
-ghost use Rattle.std.specs.Prelude.{◌≡◌, ◌+◌, ◌<◌, ◌≤◌, ◌^◌, [], ◌∷◌, ℕ, None, Some, IsTrue};
+ghost use Rattle.std.specs.Prelude.{◌≡◌, ◌+◌, ◌<◌, ◌≤◌, ◌^◌, [], ◌∷◌, None, Some, IsTrue};
 ghost use Rattle.kj_base.specs.Commands.{step_of};
 ghost use Rattle.kj_base.specs.Places.{row};
 ghost use Rattle.kj_model.specs.World.{World, Promise, held_at};

@@ -1,5 +1,5 @@
 //! What a name holds goes.
-ghost use Rattle.std.specs.Prelude.{◌≡◌, ◌≤◌, ◌+◌, ◌∷◌, [], ℕ, Bool, List, Option, Some, vec_capacity};
+ghost use Rattle.std.specs.Prelude.{◌≡◌, ◌≤◌, ◌+◌, ℕ, Bool, List, Option, Some, vec_capacity};
 ghost use Rattle.kj_base.specs.Commands.{Action, Drop};
 ghost use Rattle.kj_base.specs.Record.{Item};
 ghost use Rattle.kj_model.specs.World.{World, State, Promise, HubOf};

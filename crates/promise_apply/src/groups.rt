@@ -1,8 +1,6 @@
 //! Commands on sets and cancelers. No keeper of names gives a set tasks or a canceler Wraps yet.
-ghost use Rattle.std.specs.Prelude.{◌≡◌, ◌≤◌, [], ◌∷◌, ℕ, List, Option, None, Some, Bool};
-ghost use Rattle.kj_base.specs.Commands.{Command as CommandSeen, Action, Clear, Cancel};
-ghost use Rattle.kj_base.specs.Record.{Item};
-ghost use Rattle.kj_model.specs.World.{World, State};
+ghost use Rattle.std.specs.Prelude.{◌≡◌, ◌≤◌, [], ◌∷◌, None, Some};
+ghost use Rattle.kj_base.specs.Commands.{Command as CommandSeen, Clear, Cancel};
 ghost use Rattle.kj_model.specs.Nodes.{Ready};
 ghost use Rattle.kj_model.specs.Outcomes.{void};
 ghost use Rattle.kj_model.specs.Changes.{named};

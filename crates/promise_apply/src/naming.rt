@@ -1,7 +1,7 @@
 //! The names of a command, and why one of them refuses it.
-ghost use Rattle.std.specs.Prelude.{◌≡◌, ◌+◌, ◌<◌, ◌≤◌, [], ◌∷◌, ◌&&◌, ◌||◌, ◌==◌, not, ℕ, List, Option, None, Some, Bool, true, false, length, option_copied};
+ghost use Rattle.std.specs.Prelude.{◌≡◌, ◌<◌, [], ◌&&◌, ◌||◌, ◌==◌, List, Option, None, Some, true, false};
 ghost use Rattle.std.specs.List.{list_any};
-ghost use Rattle.kj_model.specs.World.{World, Held as Seen, held_at};
+ghost use Rattle.kj_model.specs.World.{World, Held as Seen};
 ghost use Rattle.kj_model.specs.Nodes.{form_at};
 ghost use Rattle.kj_model.specs.Uses.{Use as UseSeen, first_failing, has_role, has_empty_cell, is_name, is_new, is_source, used_before, is_unknown, is_wrong, is_taken, is_promise, is_cell, is_taken_ask, is_hub, is_group, is_canceler, is_live_request, waits_at};
 ghost use Rattle.promise_names.specs.Held.{SeesHeld};

@@ -1,5 +1,5 @@
 //! Branches of hubs.
-ghost use Rattle.std.specs.Prelude.{◌≡◌, ◌+◌, ◌<◌, ◌≤◌, ◌^◌, [], ◌∷◌, ℕ, None, Some, IsTrue};
+ghost use Rattle.std.specs.Prelude.{◌≡◌, ◌+◌, ◌<◌, ◌≤◌, ◌^◌, [], ◌∷◌, None, Some, IsTrue};
 ghost use Rattle.kj_base.specs.Places.{row};
 ghost use Rattle.kj_model.specs.World.{World, HubOf, held_at};
 ghost use Rattle.kj_model.specs.Effects.{branch_built};

@@ -1,5 +1,5 @@
 //! Commands with the frees that they tell.
-ghost use Rattle.std.specs.Prelude.{◌≡◌, ◌≤◌, ◌+◌, ℕ, vec_capacity};
+ghost use Rattle.std.specs.Prelude.{◌≡◌, ◌≤◌, ◌+◌, vec_capacity};
 ghost use Rattle.promise_commands.specs.Commands.{command_of};
 ghost use Rattle.promise_commands.specs.Refusals.{refusal_of};
 ghost use Rattle.promise_nodes.specs.Kept.{OnlyRises};
@@ -42,9 +42,7 @@ pub fn apply<N: Nodes, M: Names, S: Steps>(
     ensures search_room { vec_capacity search.old ≤ vec_capacity search.new }
 {
     match command {
-        Command::Drop { name } => {
-            apply_drop(nodes, names, frames, search, *name, steps)
-        }
+        Command::Drop { name } => { apply_drop(nodes, names, frames, search, *name, steps) }
         _ => apply_silent(nodes, names, command),
     }
 }
