@@ -18,7 +18,8 @@ pub trait Steps {
 
     /// The action of one run of a step under a node. A run that finds no memory adds nothing to what is told.
     fn run(&mut self, node: NodeId, step: StepId, input: &Outcome) -> Result<Action, NoMemory>
-        ensures ran { IfOk result (λ action. Hears (told self.old) (Run node.0 step.0 input.now (action_of action) ∷ []) (told self.new)) }
+        ensures ran { IfOk result (λ action. Hears (told self.old)
+            (Run node.0 step.0 input.now (action_of action) ∷ []) (told self.new)) }
         ensures none { OnErr result (Hears (told self.old) [] (told self.new)) }
         ensures lacks { HasLacked (is_err result) (lacks self.old) (lacks self.new) };
 

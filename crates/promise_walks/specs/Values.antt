@@ -1,11 +1,10 @@
 -- What evaluations give, against the definitions.
-use Rattle.std.specs.Prelude.{◌≡◌, ◌<◌, ℕ, List, [], ◌∷◌, ◌++◌, Option, None, Some, Bool, false, Result, Ok, Err}
+use Rattle.std.specs.Prelude.{◌≡◌, ◌<◌, ℕ, List, [], ◌++◌, Option, None, Some, Bool, false, Result, Ok, Err}
 use Rattle.kj_base.specs.declared.memory.NoMemory.{NoMemory}
 use Rattle.kj_base.specs.declared.outcomes.Outcome.{Outcome}
 use Rattle.kj_base.specs.declared.nodes.Form.{Form as FormCase}
-use Rattle.kj_base.specs.Commands.{Action}
 use Rattle.kj_base.specs.Places.{Spot, Row}
-use Rattle.kj_base.specs.Record.{Item, Run, Free}
+use Rattle.kj_base.specs.Record.{Item}
 use Rattle.promise_commands.specs.Telling.{Telling, Hears}
 use Rattle.kj_model.specs.Nodes.{parts_of}
 use Rattle.kj_model.specs.World.{World, State, Setting}
