@@ -415,6 +415,12 @@ command_letter (Fulfil n v) = lit< tt
 command_letter (Reject n x) = lit< tt
 command_letter (DropCell n) = lit< tt
 command_letter (Detach n) = lit< tt
+command_letter (NewSet n s) = lit< tt
+command_letter (OnEmpty n s) = lit< tt
+command_letter (Clear n) = lit< tt
+command_letter (NewCanceler n) = lit< tt
+command_letter (Cancel n) = lit< tt
+command_letter (Drop n) = lit< tt
 
 -- a line begins with a letter
 letter_first : (m : Meaning) → IsSaid m → 96 < first_octet (meaning_words m)
