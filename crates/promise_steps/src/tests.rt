@@ -168,9 +168,10 @@ fn other_lines(rt: HostRuntime) -> Result<(), Fail> {
     print_refused(&mut text, 4, Refused::Taken(Name(0)))?;
     print_refused(&mut text, 10, Refused::Full)?;
     print_refused(&mut text, 11, Refused::WrongKind(Name(4294967295)))?;
+    print_refused(&mut text, 12, Refused::Busy(Name(7)))?;
     print_refused(&mut text, 4294967295, Refused::Stopped)?;
     let lines =
-        b"idle\nrefused 3 unknown 8\nrefused 4 taken 0\nrefused 10 full\nrefused 11 wrong 4294967295\nrefused 4294967295 stopped\n";
+        b"idle\nrefused 3 unknown 8\nrefused 4 taken 0\nrefused 10 full\nrefused 11 wrong 4294967295\nrefused 12 busy 7\nrefused 4294967295 stopped\n";
     assert!(rt; text.as_slice() == lines.as_slice());
     Ok(())
 }
