@@ -23,3 +23,5 @@ pub mod Members
 pub mod Ruled
 pub mod Replaced
 pub mod Following
+pub mod Buckets
+pub mod Searching

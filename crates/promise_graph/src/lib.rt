@@ -12,6 +12,7 @@ mod graph;
 mod hubs;
 mod index;
 mod making;
+mod memberships;
 mod own_set;
 mod owners;
 mod parts;
@@ -23,6 +24,7 @@ mod visits;
 pub use fields::{Fields, Marks, Rings};
 pub use graph::Graph;
 pub use index::Entry;
+pub use memberships::Memberships;
 pub use parts::Span;
 pub use visits::{Visit, Visits};
 
