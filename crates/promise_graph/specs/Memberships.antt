@@ -1,5 +1,5 @@
 -- Members of lists, by slot.
-use Rattle.std.specs.Prelude.{◌≡◌, ◌≢◌, ◌<◌, ◌≤◌, ℕ, ◌+◌, ◌%◌, List, [], ◌∷◌, Option, None, Some, Bool, true, false, ◌==◌, length, filter, map, reverse, slice_index_or, IsSome}
+use Rattle.std.specs.Prelude.{◌≡◌, ◌≢◌, ◌<◌, ◌≤◌, ℕ, ◌+◌, ◌%◌, List, [], ◌∷◌, Option, None, Some, Bool, true, false, ◌==◌, length, filter, map, reverse, slice_index_or, slice_get, IsSome}
 use Rattle.kj_base.specs.declared.numbers.Name.{Name}
 use Rattle.kj_model.specs.Nodes.{is_in, dropped}
 use Rattle.linked_lists.specs.Lists.{members}
@@ -68,3 +68,15 @@ pub record HasLists (m : Marks) (x : Memberships) (lists : ℕ → List ℕ) : T
   pub live : (s : ℕ) → IsSome (list_at x s) → 0 < number_in m.numbers.items s
   pub below : (list n : ℕ) → is_in n (lists list) ≡ true → n < m.next
   pub apart : AreApart lists
+
+-- the same, where the node of this number left its list, if it was in one
+pub record HasListsBut (n : ℕ) (m : Marks) (x : Memberships) (lists : ℕ → List ℕ) : Type 0 where
+  pub named : (list : ℕ) → dropped n (filter (is_given m.numbers.items) (reverse (lists list))) ≡ map (number_in m.numbers.items) (slots_in x m.slots list)
+  pub live : (s : ℕ) → IsSome (list_at x s) → (0 < number_in m.numbers.items s) × (number_in m.numbers.items s ≢ n)
+  pub below : (list n : ℕ) → is_in n (lists list) ≡ true → n < m.next
+  pub apart : AreApart lists
+
+-- the number of the node in a slot, if there is one
+abbrev pub numbered_in : List ℕ → Option ℕ → Option ℕ
+numbered_in numbers None = None
+numbered_in numbers (Some s) = slice_get numbers s
