@@ -5,6 +5,7 @@ use Rattle.std.specs.List.{AllByRecursion}
 use Rattle.std.proofs.lemmas.Bool.{cases_eq, false≢true}
 use Rattle.std.proofs.lemmas.Bool.Decides.{nat_tests}
 use Rattle.std.proofs.lemmas.Map.Views.{any-filter_same}
+use Rattle.kj_base.specs.Queue.{first_of}
 use Rattle.kj_base.specs.declared.numbers.Name.{Name}
 use Rattle.kj_model.specs.Nodes.{is_in, dropped}
 use Rattle.linked_lists.specs.Lists.{members, is_within, IsUnlisted, PutsBehind, KeepsOtherLists, TakesOut, place_of}
@@ -13,7 +14,7 @@ use Rattle.promise_graph.specs.Memberships.{bucket, list_at, is_list, slots_in, 
 use Rattle.promise_graph.proofs.Lists.{none_some, some_same, equal_yes, equal_not}
 use Rattle.promise_graph.proofs.Members.{filter_same, filter_swap}
 
-same_number : (k n : ℕ) → (k == n) ≡ true → k ≡ n
+pub same_number : (k n : ℕ) → (k == n) ≡ true → k ≡ n
 same_number k n e = grind (arith, nat_tests)
 
 pub in_filtered : (q : ℕ → Bool) (n : ℕ) (xs : List ℕ) → is_in n (filter q xs) ≡ (q n && is_in n xs)
@@ -31,7 +32,7 @@ rest_false : (c d : Bool) → (c || d) ≡ false → d ≡ false
 rest_false true d h = absurd (false≢true (sym h))
 rest_false false d h = h
 
-or_true : (c d : Bool) → d ≡ true → (c || d) ≡ true
+pub or_true : (c d : Bool) → d ≡ true → (c || d) ≡ true
 or_true true d h = refl
 or_true false d h = h
 
@@ -181,3 +182,57 @@ module _ (x y : Memberships) (slots slot : ℕ) (k : AreListed x slots) (within 
 
   pub has_left : HasLeft x y slots slot
   has_left = record { each = each_left; gone = gone; lists = others }
+
+-- ---- the newest slot of a list
+
+pub first_in : (xs : List ℕ) (s : ℕ) → first_of xs ≡ Some s → is_in s xs ≡ true
+first_in [] s h = absurd (none_some s h)
+first_in (x ∷ xs) s h = ap (λ (t : Bool). t || is_in s xs) (equal_yes x s (some_same x s h))
+
+pub none_first : (xs : List ℕ) → first_of xs ≡ None → xs ≡ []
+none_first [] h = refl
+none_first (x ∷ xs) h = absurd (none_some x (sym h))
+
+short_case : (b : Bool) (x : ℕ) (xs ys : List ℕ) → length ys ≤ length xs → length (cond b (x ∷ ys) ys) ≤ length (x ∷ xs)
+short_case true x xs ys h = omega arith
+short_case false x xs ys h = omega arith
+
+filter_short : (p : ℕ → Bool) (xs : List ℕ) → length (filter p xs) ≤ length xs
+filter_short p [] = omega arith
+filter_short p (x ∷ xs) = short_case (p x) x xs (filter p xs) (filter_short p xs)
+
+pub dropped_short : (xs : List ℕ) (s : ℕ) → first_of xs ≡ Some s → length (dropped s xs) < length xs
+dropped_short [] s h = absurd (none_some s h)
+dropped_short (x ∷ xs) s h =
+    let e = ap (λ (t : Bool). length (cond (not t) (x ∷ dropped s xs) (dropped s xs))) (equal_yes x s (some_same x s h)) in
+    let l = filter_short (λ m. not (m == s)) xs in
+    omega (arith, e, l)
+
+kept_case : (b : Bool) (x : ℕ) (xs ys : List ℕ) → b ≡ false → ys ≡ xs → cond (not b) (x ∷ ys) ys ≡ x ∷ xs
+kept_case true x xs ys e h = absurd (false≢true (sym e))
+kept_case false x xs ys e h = ap (λ (l : List ℕ). x ∷ l) h
+
+-- what isn't there doesn't leave
+pub dropped_none : (n : ℕ) (xs : List ℕ) → is_in n xs ≡ false → dropped n xs ≡ xs
+dropped_none n [] h = refl
+dropped_none n (x ∷ xs) h = kept_case (x == n) x xs (dropped n xs) (first_false (x == n) (is_in n xs) h) (dropped_none n xs (rest_false (x == n) (is_in n xs) h))
+
+module _ (x : Memberships) (slots list slot : ℕ) (k : AreListed x slots) (first : first_of (slots_in x slots list) ≡ Some slot) where
+  in_bucket : (is_list list (list_at x slot) && is_in slot (members x.links (bucket slots list))) ≡ true
+  in_bucket = sym (in_filtered (λ s. is_list list (list_at x s)) slot (members x.links (bucket slots list))) ∙ first_in (slots_in x slots list) slot first
+
+  pub first_low : slot < slots
+  first_low = k.low (bucket slots list) slot (bucket_high slots list) (and_second (is_list list (list_at x slot)) (is_in slot (members x.links (bucket slots list))) in_bucket)
+
+  pub first_listed : is_list list (list_at x slot) ≡ true
+  first_listed = and_first (is_list list (list_at x slot)) (is_in slot (members x.links (bucket slots list))) in_bucket
+
+-- a slot is in one list
+pub one_list : (o : Option Name) (a b : ℕ) → is_list a o ≡ true → b ≢ a → is_list b o ≡ false
+one_list None a b h d = refl
+one_list (Some name) a b h d = equal_not name.0 b (λ e. d (sym e ∙ same_number name.0 a h))
+
+pub out_of_list : (x : Memberships) (slots l slot : ℕ) → is_list l (list_at x slot) ≡ false → is_in slot (slots_in x slots l) ≡ false
+out_of_list x slots l slot h =
+    in_filtered (λ s. is_list l (list_at x s)) slot (members x.links (bucket slots l))
+    ∙ ap (λ (t : Bool). t && is_in slot (members x.links (bucket slots l))) h

@@ -25,3 +25,5 @@ pub mod Replaced
 pub mod Following
 pub mod Buckets
 pub mod Searching
+pub mod Listings
+pub mod Frames

@@ -92,7 +92,7 @@ pub find_first : (p : ℕ → Bool) (xs : List ℕ) → find p xs ≡ first_of (
 find_first p [] = refl
 find_first p (x ∷ xs) = first_case (p x) x (filter p xs) (find p xs) (find_first p xs)
 
-nil_more : (front : List ℕ) (s : ℕ) (back : List ℕ) → ◌≡◌ {A = List ℕ} [] (front ++ s ∷ back) → ⊥
+pub nil_more : (front : List ℕ) (s : ℕ) (back : List ℕ) → ◌≡◌ {A = List ℕ} [] (front ++ s ∷ back) → ⊥
 nil_more [] s back e = cc
 nil_more (y ∷ ys) s back e = cc
 

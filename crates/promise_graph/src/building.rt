@@ -138,7 +138,6 @@ pub(crate) fn build<St: Store + Drop, Q: Queue + Drop>(
         → IsTrue
         (room_of (St.room g.new.store) g.new.marks (rows_left g.old.marks.next count more)) }
     ensures comes { Comes (St.node_at g.old.store) (St.node_at g.new.store) g.old.marks.next }
-    ensures numbered { AreNumbered (St.node_at g.old.store) g.old.marks }
 {
     make_room(&g.store, &mut g.marks);
     let parts = parts(&form);

@@ -30,8 +30,9 @@ pub(crate) fn join_list<St: Store + Drop, Q: Queue + Drop>(
     let Some(slot) = find(g, node) else {
         return;
     };
-    if list_at(x, slot.0).is_none() {
-        join(x, g.marks.slots, slot, list);
+    match list_at(x, slot.0) {
+        None => join(x, g.marks.slots, slot, list),
+        Some(_) => {}
     }
 }
 

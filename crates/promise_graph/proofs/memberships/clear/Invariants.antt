@@ -6,8 +6,8 @@ use Rattle.promise_graph.proofs.memberships.clear.Given as goal
 abbrev pub invariant-clearing : goal.invariant-clearing
 invariant-clearing l = record {
   kept : AreListed l.x l.slots;
-  elsewhere : (other : ℕ) → other ≢ l.list.0 → slots_in l.x l.slots other ≡ slots_in l.fn.x.now l.slots other;
-  lists : (s : ℕ) → IsSome (list_at l.x s) → IsSome (list_at l.fn.x.now s);
+  elsewhere : (other : ℕ) → other ≢ l.list.0 → slots_in l.x l.slots other ≡ slots_in l.fn.x l.slots other;
+  lists : (s : ℕ) → IsSome (list_at l.x s) → IsSome (list_at l.fn.x s);
 }
 
 abbrev pub decreases-clearing : goal.decreases-clearing

@@ -1,5 +1,5 @@
 use Rattle.std.proofs.Common.{ℕ, Some, subst, length, sym}
-use Rattle.std.proofs.Math.ListN.{set}
+use Rattle.std.specs.Vec.{with_item}
 use Rattle.std.proofs.lemmas.List.{get_or-set_same, get_or-set_other, length-set}
 use Rattle.std.specs.Prelude.{None, ◌<◌, IsTrue}
 use Rattle.std.proofs.lemmas.Bool.{false≢true}
@@ -12,7 +12,7 @@ returns-then-is_alone-clause-kept c =
     let x = c.args.x.now in
     let s = c.args.slot.0 in
     let within : s < length x.lists.items = subst (λ (n : ℕ). s < n) (sym c.requires.kept.all_lists) c.requires.within in
-    joined_kept x (record { links = c.insert_after.new.self; lists = record x.lists { items = set x.lists.items s (Some c.args.list) } }) c.args.slots s c.args.list c.requires.kept c.requires.within (c.is_alone.ensures.unlisted c.if-is_alone.true)
+    joined_kept x (record { links = c.insert_after.new.self; lists = with_item x.lists s (Some c.args.list) }) c.args.slots s c.args.list c.requires.kept c.requires.within (c.is_alone.ensures.unlisted c.if-is_alone.true)
     (subst (λ (b : ℕ). PutsBehind x.links c.insert_after.new.self b s) c.bucket-place.ensures c.insert_after.ensures.list)
     (subst (λ (b : ℕ). KeepsOtherLists x.links c.insert_after.new.self b s) c.bucket-place.ensures c.insert_after.ensures.others)
     c.insert_after.ensures.size
@@ -25,7 +25,7 @@ returns-then-is_alone-clause-joined c =
     let x = c.args.x.now in
     let s = c.args.slot.0 in
     let within : s < length x.lists.items = subst (λ (n : ℕ). s < n) (sym c.requires.kept.all_lists) c.requires.within in
-    has_joined x (record { links = c.insert_after.new.self; lists = record x.lists { items = set x.lists.items s (Some c.args.list) } }) c.args.slots s c.args.list c.requires.kept c.requires.within (c.is_alone.ensures.unlisted c.if-is_alone.true)
+    has_joined x (record { links = c.insert_after.new.self; lists = with_item x.lists s (Some c.args.list) }) c.args.slots s c.args.list c.requires.kept c.requires.within (c.is_alone.ensures.unlisted c.if-is_alone.true)
     (subst (λ (b : ℕ). PutsBehind x.links c.insert_after.new.self b s) c.bucket-place.ensures c.insert_after.ensures.list)
     (subst (λ (b : ℕ). KeepsOtherLists x.links c.insert_after.new.self b s) c.bucket-place.ensures c.insert_after.ensures.others)
     c.insert_after.ensures.size
