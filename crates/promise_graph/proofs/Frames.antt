@@ -1,22 +1,26 @@
 -- The lists of a graph, as its nodes come, go and change.
-use Rattle.std.proofs.Common.{◌≡◌, ◌≢◌, ◌∙◌, ℕ, ◌+◌, ◌<◌, List, Option, None, Some, Bool, true, false, not, map, arith, refl, sym, ap, inl, inr, subst}
-use Rattle.std.specs.Prelude.{◌==◌, ◌&&◌, filter, reverse, if◌then◌else◌, IsSome}
+use Rattle.std.proofs.Common.{◌≡◌, ◌≢◌, ◌∙◌, ℕ, ◌+◌, ◌<◌, List, [], ◌∷◌, cond, Option, None, Some, Bool, true, false, not, map, arith, refl, sym, ap, inl, inr, subst}
+use Rattle.std.specs.Prelude.{◌==◌, ◌&&◌, filter, find, reverse, if◌then◌else◌, IsSome}
 use Rattle.std.specs.List.{AllByRecursion}
-use Rattle.std.specs.Vec.{Vec}
-use Rattle.std.proofs.lemmas.Bool.{cases_eq}
+use Rattle.std.proofs.lemmas.Bool.{cases_eq, false≢true}
 use Rattle.kj_base.specs.declared.nodes.Node.{Node}
+use Rattle.kj_base.specs.declared.numbers.Name.{Name}
 use Rattle.kj_model.specs.Nodes.{is_in, dropped}
+use Rattle.kj_model.specs.World.{World}
+use Rattle.promise_nodes.specs.Kept.{IsLive, is_live}
+use Rattle.promise_nodes.specs.Members.{newest_member}
 use Rattle.promise_graph.specs.declared.fields.Marks.{Marks}
 use Rattle.promise_graph.specs.declared.memberships.Memberships.{Memberships}
 use Rattle.promise_graph.specs.Slots.{number_at, Finds, slot_of, IsAbsent}
 use Rattle.promise_graph.specs.Kept.{AreNumbered}
 use Rattle.promise_graph.specs.Members.{is_given}
-use Rattle.promise_graph.specs.Memberships.{slots_in, number_in, AreListed, HasLists, HasListsBut}
+use Rattle.promise_graph.specs.Memberships.{slots_in, number_in, AreListed, AreNone, HasLists, HasListsBut}
 use Rattle.promise_graph.specs.Rows.{Comes, Goes, gone_number}
+use Rattle.promise_graph.specs.Standing.{HasNodes}
 use Rattle.promise_graph.specs.Visits.{Whole}
 use Rattle.promise_graph.proofs.Lists.{none_some, some_same, equal_yes, equal_not}
-use Rattle.promise_graph.proofs.Numbered.{slot_is}
-use Rattle.promise_graph.proofs.Members.{filter_both, filter_same, given_live, given_absent, number_is, number_there, given_still, number_same}
+use Rattle.promise_graph.proofs.Numbered.{slot_is, one_slot}
+use Rattle.promise_graph.proofs.Members.{filter_both, filter_same, given_live, given_absent, number_is, number_there, given_still, number_same, live_given}
 use Rattle.promise_graph.proofs.Buckets.{same_number}
 use Rattle.promise_graph.proofs.Renamed.{all_more}
 use Rattle.promise_graph.proofs.Listings.{all_in, in_reverse, listed_slot, slots_live, map_same, some_list}
@@ -26,13 +30,13 @@ pub lists_seen : {St Q : Type 0} (a b : Whole St Q) (lists : ℕ → List ℕ) �
 lists_seen a b lists e h = rw e h
 
 -- the lists stay where no number of a slot changes
-pub lists_still : (m m' : Marks) (x : Memberships) (lists : ℕ → List ℕ) → m'.numbers ≡ m.numbers → m'.slots ≡ m.slots → m'.next ≡ m.next → HasLists m x lists → HasLists m' x lists
+pub lists_still : (m m' : Marks) (x : Memberships) (lists : ℕ → List ℕ) → m'.numbers.items ≡ m.numbers.items → m'.slots ≡ m.slots → m'.next ≡ m.next → HasLists m x lists → HasLists m' x lists
 lists_still m m' x lists numbers slots next h = record {
   named = λ l.
-      ap (λ v. filter (is_given v.items) (reverse (lists l))) numbers
+      ap (λ (v : List ℕ). filter (is_given v) (reverse (lists l))) numbers
       ∙ h.named l
-      ∙ sym (ap (λ v. map (number_in v.items) (slots_in x m'.slots l)) numbers ∙ ap (λ (s : ℕ). map (number_in m.numbers.items) (slots_in x s l)) slots);
-  live = λ s i. subst (λ v. 0 < number_in v.items s) (sym numbers) (h.live s i);
+      ∙ sym (ap (λ (v : List ℕ). map (number_in v) (slots_in x m'.slots l)) numbers ∙ ap (λ (s : ℕ). map (number_in m.numbers.items) (slots_in x s l)) slots);
+  live = λ s i. subst (λ (v : List ℕ). 0 < number_in v s) (sym numbers) (h.live s i);
   below = λ l q i. subst (λ (n : ℕ). q < n) (sym next) (h.below l q i);
   apart = h.apart;
 }
@@ -103,3 +107,47 @@ module _ (at new : ℕ → Option Node) (m m' : Marks) (k : AreNumbered at m) (k
         below = λ l q i. let low = h.below l q i in omega (arith, low, next);
         apart = h.apart;
       }
+
+other_stays : (at : ℕ → Option Node) (m : Marks) (slot n s : ℕ) → AreNumbered at m → number_at at slot ≡ Some n → s ≢ slot → (o : Option ℕ) → number_at at s ≡ o → gone_number n o ≡ o
+other_stays at m slot n s k live d None e = refl
+other_stays at m slot n s k live d (Some q) e = gone_same n q (λ f. d (one_slot at m k s slot n (e ∙ ap (λ (i : ℕ). Some i) f) live))
+
+-- the node of a slot goes
+pub goes_slot : (at new : ℕ → Option Node) (m : Marks) (slot n : ℕ) → AreNumbered at m → number_at at slot ≡ Some n → number_at new slot ≡ None → ((s : ℕ) → s ≢ slot → number_at new s ≡ number_at at s) → Goes n at new
+goes_slot at new m slot n k live gone others s = elim (cases_eq s slot) [
+  | inl e ↦ ap (number_at new) e ∙ gone ∙ sym (ap (gone_number n) (ap (number_at at) e ∙ live) ∙ ap (λ (b : Bool). if b then None else Some n) (equal_yes n n refl))
+  | inr d ↦ others s d ∙ sym (other_stays at m slot n s k live d (number_at at s) refl)
+]
+
+-- nothing goes where no slot has the number
+pub goes_absent : (at : ℕ → Option Node) (n : ℕ) → IsAbsent at n → Goes n at at
+goes_absent at n a s = stays (number_at at s) refl
+  where
+    stays : (o : Option ℕ) → number_at at s ≡ o → o ≡ gone_number n o
+    stays None e = refl
+    stays (Some q) e = sym (gone_same n q (λ f. a s (e ∙ ap (λ (i : ℕ). Some i) f)))
+
+-- a new graph has no members of lists
+pub no_lists : (m : Marks) (x : Memberships) → AreNone x m.slots → HasLists m x (λ list. [])
+no_lists m x none = record {
+  named = λ l. sym (ap (map (number_in m.numbers.items)) (none.empty l));
+  live = λ s i. absurd (false≢true (subst (λ (o : Option Name). IsSome o) (none.none s) i));
+  below = λ l n i. absurd (false≢true i);
+  apart = λ n a b i j. absurd (false≢true i);
+}
+
+find_case : (b c : Bool) (x : ℕ) (o r : Option ℕ) → b ≡ c → o ≡ r → cond b (Some x) o ≡ cond c (Some x) r
+find_case b c x o r e h = ap (λ (t : Bool). cond t (Some x) o) e ∙ ap (λ (t : Option ℕ). cond c (Some x) t) h
+
+find_same : (p q : ℕ → Bool) → ((x : ℕ) → p x ≡ q x) → (xs : List ℕ) → find p xs ≡ find q xs
+find_same p q e [] = refl
+find_same p q e (x ∷ xs) = find_case (p x) (q x) x (find p xs) (find q xs) (e x) (find_same p q e xs)
+
+module _ (at : ℕ → Option Node) (m : Marks) (k : AreNumbered at m) (w : World) (has : HasNodes at m.rings w.nodes) where
+  -- a live node has a slot
+  pub given_of : (n : ℕ) → IsLive w n → is_given m.numbers.items n ≡ true
+  given_of n live = sym (live_given at m w.nodes k has n) ∙ live
+
+  -- the newest member that has a slot is the newest that lives
+  pub newest_live : (ns : List ℕ) → find (is_given m.numbers.items) (reverse ns) ≡ newest_member w ns
+  newest_live ns = find_same (is_given m.numbers.items) (is_live w) (λ n. sym (live_given at m w.nodes k has n)) (reverse ns)

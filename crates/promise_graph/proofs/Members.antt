@@ -278,7 +278,7 @@ last_all : (P : ℕ → Type 0) (a : ℕ) (xs : List ℕ) → P a → AllByRecur
 last_all P a [] p h = p
 last_all P a (x ∷ xs) p h = last_all P x xs h.0 h.1
 
-live_given : (at : ℕ → Option Node) (m : Marks) (es : List Seen) → AreNumbered at m → HasNodes at m.rings es → (x : ℕ) → is_some (form_at x es) ≡ is_given m.numbers.items x
+pub live_given : (at : ℕ → Option Node) (m : Marks) (es : List Seen) → AreNumbered at m → HasNodes at m.rings es → (x : ℕ) → is_some (form_at x es) ≡ is_given m.numbers.items x
 live_given at m es k has x = by_slot (slot_of x m.numbers.items) (slot_is at m k x)
   where
     by_slot : (o : Option ℕ) → Finds at x o → is_some (form_at x es) ≡ is_given m.numbers.items x

@@ -1,10 +1,16 @@
 use Rattle.std.proofs.Common.{sym, subst, ℕ}
+use Rattle.promise_graph.specs.Memberships.{AreListed, AreNone}
 use Rattle.promise_graph.specs.Visits.{AreVisits}
 use Rattle.promise_graph.proofs.New.{new_kept}
+use Rattle.promise_graph.proofs.Frames.{no_lists}
 use Rattle.promise_graph.proofs.graph.Graph.new.Goals as goal
 
 pub invariant_of-result : goal.invariant_of-result
 invariant_of-result g c = (
   new_kept (g.St.Store.node_at c.args.store) c.requires.no_nodes c.in_ok-marks.marks c.args.limits.slots c.in_ok-marks.ensures _ _ _ _ c.requires.few c.requires.store c.requires.size c.requires.no_events,
   subst (λ (j : ℕ). AreVisits c.in_ok-visits.visits j) (sym c.in_ok-marks.ensures.slots_are) c.in_ok-visits.ensures,
+  subst (λ (j : ℕ). AreListed c.in_ok-memberships.memberships j) (sym c.in_ok-marks.ensures.slots_are) c.in_ok-memberships.ensures.listed,
 )
+
+pub returns-clause-members : goal.returns-clause-members
+returns-clause-members g c = no_lists c.in_ok-marks.marks c.in_ok-memberships.memberships (subst (λ (j : ℕ). AreNone c.in_ok-memberships.memberships j) (sym c.in_ok-marks.ensures.slots_are) c.in_ok-memberships.ensures)
