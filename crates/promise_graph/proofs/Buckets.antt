@@ -62,7 +62,6 @@ module _ (x y : Memberships) (slots slot : ℕ) (list : Name) (k : AreListed x s
     (puts : PutsBehind x.links y.links (bucket slots list.0) slot) (keeps : KeepsOtherLists x.links y.links (bucket slots list.0) slot)
     (size : length y.links ≡ length x.links) (sizes : length y.lists.items ≡ length x.lists.items)
     (here : list_at y slot ≡ Some list) (others : (s : ℕ) → s ≢ slot → list_at y s ≡ list_at x s) where
-
   high_apart : (place : ℕ) → slots ≤ place → place ≢ slot
   high_apart place high e = absurd (omega (arith, e, within, high))
 
@@ -146,7 +145,6 @@ module _ (x y : Memberships) (slots slot : ℕ) (list : Name) (k : AreListed x s
 module _ (x y : Memberships) (slots slot : ℕ) (k : AreListed x slots) (within : slot < slots) (empty : members y.links slot ≡ []) (takes : TakesOut x.links y.links slot)
     (size : length y.links ≡ length x.links) (sizes : length y.lists.items ≡ length x.lists.items)
     (gone : list_at y slot ≡ None) (others : (s : ℕ) → s ≢ slot → list_at y s ≡ list_at x s) where
-
   left_apart : (place : ℕ) → slots ≤ place → place ≢ slot
   left_apart place high e = absurd (omega (arith, e, within, high))
 
@@ -161,7 +159,7 @@ module _ (x y : Memberships) (slots slot : ℕ) (k : AreListed x slots) (within 
       let xs = members x.links (bucket slots l) in
       ap (filter (λ s. is_list l (list_at y s))) (left_at (bucket slots l) (bucket_high slots l))
       ∙ filter_same (λ s. is_list l (list_at x s)) (λ s. is_list l (list_at y s)) (dropped slot xs)
-        (all_but slot (λ s. is_list l (list_at y s) ≡ is_list l (list_at x s)) (λ s d. ap (is_list l) (others s d)) (dropped slot xs) (out_now xs))
+      (all_but slot (λ s. is_list l (list_at y s) ≡ is_list l (list_at x s)) (λ s d. ap (is_list l) (others s d)) (dropped slot xs) (out_now xs))
       ∙ filter_swap (λ s. is_list l (list_at x s)) (λ m. not (m == slot)) xs
 
   pub left_kept : AreListed y slots

@@ -113,7 +113,7 @@ module _ (p : ℕ → Bool) (s : ℕ) (back : List ℕ) where
       sym (apart_first x xs d)
       ∙ ap (λ (n : ℕ). is_in n xs) e
       ∙ and_second (p s) (is_in s xs) (sym (in_filtered p s xs) ∙ ap (is_in s) (tail_same x y (filter p xs) (ys ++ s ∷ back) h) ∙ in_middle ys s back)
-    ))
+      ))
 
   rest_case : (x : ℕ) (xs front : List ℕ) → nat_eq x s ≡ false → x ∷ filter p xs ≡ front ++ s ∷ back → (ys : List ℕ) × (filter p xs ≡ ys ++ s ∷ back)
   rest_case x xs [] d h = absurd (false≢true (sym d ∙ eq-eqb x s (head_same x s (filter p xs) back h)))

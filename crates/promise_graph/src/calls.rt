@@ -3,8 +3,8 @@ ghost use Rattle.std.specs.Prelude.{◌≡◌, ◌<◌, ◌≤◌, ◌+◌, ℕ,
 
 use crate::graph::Graph;
 use crate::{
-    building, events, finding, fitting, freeing, hubs, listing, own_set, owners, putting, replacing,
-    visits,
+    building, events, finding, fitting, freeing, hubs, listing, own_set, owners, putting,
+    replacing, visits,
 };
 use kj_base::{Form, Link, Queue, Store};
 use promise_nodes::{Mark, NodeRow, Nodes, Way};

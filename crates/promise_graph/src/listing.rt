@@ -112,10 +112,7 @@ pub(crate) fn list_of<St: Store + Drop, Q: Queue + Drop>(
 }
 
 // The node in a slot, if there is one.
-fn node_in<St: Store + Drop, Q: Queue + Drop>(
-    g: &Fields<St, Q>,
-    slot: Option<u32>,
-) -> Option<Link>
+fn node_in<St: Store + Drop, Q: Queue + Drop>(g: &Fields<St, Q>, slot: Option<u32>) -> Option<Link>
     ensures { link_number result ≡ numbered_in g.now.marks.numbers.items slot }
 {
     let Some(slot) = slot else {

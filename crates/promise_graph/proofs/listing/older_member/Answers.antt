@@ -12,9 +12,9 @@ pub returns-in_default-list_at : goal.returns-in_default-list_at
 returns-in_default-list_at g c lists list front back h given are =
     let n = c.args.node.number.0 in
     absurd (false≢true (
-      sym (no_member (g.St.Store.node_at c.args.g.now.store) c.args.g.now.marks c.requires.numbered c.args.x.now c.requires.listed lists h c.in-Some.slot.0 n c.in-Some.ensures (sym c.list_at.ensures ∙ c.in_default-list_at.is) list)
-      ∙ ap (is_in n) are
-      ∙ in_middle front n back
+    sym (no_member (g.St.Store.node_at c.args.g.now.store) c.args.g.now.marks c.requires.numbered c.args.x.now c.requires.listed lists h c.in-Some.slot.0 n c.in-Some.ensures (sym c.list_at.ensures ∙ c.in_default-list_at.is) list)
+    ∙ ap (is_in n) are
+    ∙ in_middle front n back
     ))
 
 pub returns : goal.returns

@@ -23,8 +23,7 @@ searching-preserved c =
       inside = c.after-at.ensures.member;
       found = λ k h.
           let f = c.searching.invariant.found k h in
-          let at = sym f.1 ∙ c.in-Some.is in
-          (
+          let at = sym f.1 ∙ c.in-Some.is in (
             suc f.0,
             step_place xs f.0 c.in-Some.slot c.after-at.result c.after-at.ensures.apart at c.after-at.ensures.after,
             step_found (λ s. is_list c.args.list.0 (list_at c.args.x.now s)) xs f.0 c.in-Some.slot at (sym c.is_in_list.ensures ∙ c.if-is_in_list.false) ∙ f.2,
