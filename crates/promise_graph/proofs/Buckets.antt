@@ -1,5 +1,5 @@
 -- Buckets of slots, as slots come and go.
-use Rattle.std.proofs.Common.{◌≡◌, ◌≢◌, ◌∙◌, ℕ, ◌+◌, ◌%◌, ◌<◌, ◌≤◌, List, [], ◌∷◌, ◌++◌, Option, None, Some, Bool, true, false, cond, not, length, arith, refl, sym, ap, inl, inr, subst}
+use Rattle.std.proofs.Common.{◌≡◌, ◌≢◌, ◌∙◌, ℕ, ◌+◌, ◌<◌, ◌≤◌, List, [], ◌∷◌, Option, None, Some, Bool, true, false, cond, not, length, arith, refl, sym, ap, inl, inr}
 use Rattle.std.specs.Prelude.{◌==◌, ◌||◌, ◌&&◌, filter, insert, if◌then◌else◌}
 use Rattle.std.specs.List.{AllByRecursion}
 use Rattle.std.proofs.lemmas.Bool.{cases_eq, false≢true}
@@ -8,7 +8,7 @@ use Rattle.std.proofs.lemmas.Map.Views.{any-filter_same}
 use Rattle.kj_base.specs.Queue.{first_of}
 use Rattle.kj_base.specs.declared.numbers.Name.{Name}
 use Rattle.kj_model.specs.Nodes.{is_in, dropped}
-use Rattle.linked_lists.specs.Lists.{members, is_within, IsUnlisted, PutsBehind, KeepsOtherLists, TakesOut, place_of}
+use Rattle.linked_lists.specs.Lists.{members, IsUnlisted, PutsBehind, KeepsOtherLists, TakesOut, place_of}
 use Rattle.promise_graph.specs.declared.memberships.Memberships.{Memberships}
 use Rattle.promise_graph.specs.Memberships.{bucket, list_at, is_list, slots_in, AreListed, HasJoined, HasLeft}
 use Rattle.promise_graph.proofs.Lists.{none_some, some_same, equal_yes, equal_not}

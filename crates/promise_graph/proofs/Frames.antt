@@ -1,11 +1,9 @@
 -- The lists of a graph, as its nodes come, go and change.
 use Rattle.std.proofs.Common.{◌≡◌, ◌≢◌, ◌∙◌, ℕ, ◌+◌, ◌<◌, List, [], ◌∷◌, cond, Option, None, Some, Bool, true, false, not, map, arith, refl, sym, ap, inl, inr, subst}
 use Rattle.std.specs.Prelude.{◌==◌, ◌&&◌, filter, find, reverse, if◌then◌else◌, IsSome}
-use Rattle.std.specs.List.{AllByRecursion}
 use Rattle.std.proofs.lemmas.Bool.{cases_eq, false≢true}
 use Rattle.kj_base.specs.declared.nodes.Node.{Node}
 use Rattle.kj_base.specs.declared.numbers.Name.{Name}
-use Rattle.kj_model.specs.Nodes.{is_in, dropped}
 use Rattle.kj_model.specs.World.{World}
 use Rattle.promise_nodes.specs.Kept.{IsLive, is_live}
 use Rattle.promise_nodes.specs.Members.{newest_member}
@@ -21,7 +19,6 @@ use Rattle.promise_graph.specs.Visits.{Whole}
 use Rattle.promise_graph.proofs.Lists.{none_some, some_same, equal_yes, equal_not}
 use Rattle.promise_graph.proofs.Numbered.{slot_is, one_slot}
 use Rattle.promise_graph.proofs.Members.{filter_both, filter_same, given_live, given_absent, number_is, number_there, given_still, number_same, live_given}
-use Rattle.promise_graph.proofs.Buckets.{same_number}
 use Rattle.promise_graph.proofs.Renamed.{all_more}
 use Rattle.promise_graph.proofs.Listings.{all_in, in_reverse, listed_slot, slots_live, map_same, some_list}
 

@@ -1,9 +1,8 @@
 -- Lists of nodes, as nodes join and leave them, come and go.
-use Rattle.std.proofs.Common.{◌≡◌, ◌≢◌, ◌∙◌, ℕ, ◌+◌, ◌<◌, List, [], ◌∷◌, ◌++◌, Option, None, Some, Bool, true, false, cond, not, map, arith, refl, sym, ap, inl, inr, subst, append_assoc, ◌⊎◌}
-use Rattle.std.specs.Prelude.{◌==◌, ◌||◌, ◌&&◌, filter, find, reverse, slice_index_or, if◌then◌else◌, IsSome, is_some}
+use Rattle.std.proofs.Common.{◌≡◌, ◌≢◌, ◌∙◌, ℕ, ◌<◌, List, [], ◌∷◌, ◌++◌, Option, None, Some, Bool, true, false, cond, not, map, arith, refl, sym, ap, inl, inr, subst, append_assoc, ◌⊎◌}
+use Rattle.std.specs.Prelude.{◌==◌, ◌||◌, ◌&&◌, filter, find, reverse, if◌then◌else◌, IsSome}
 use Rattle.std.specs.List.{AllByRecursion}
-use Rattle.std.proofs.lemmas.Bool.{cases_eq, cases_Bool, false≢true}
-use Rattle.std.proofs.lemmas.Bool.Decides.{nat_tests}
+use Rattle.std.proofs.lemmas.Bool.{cases_eq, false≢true}
 use Rattle.std.proofs.lemmas.List.{reverse-append}
 use Rattle.std.proofs.lemmas.Option.{slice_get-get_or}
 use Rattle.promise_graph.proofs.Searching.{find_first, nil_more, head_same, tail_same}
@@ -21,7 +20,7 @@ use Rattle.promise_graph.specs.Slots.{number_at, IsAbsent}
 use Rattle.promise_graph.specs.Kept.{AreNumbered}
 use Rattle.promise_graph.specs.Members.{is_given}
 use Rattle.promise_graph.specs.Memberships.{bucket, list_at, is_list, slots_in, number_in, numbered_in, AreListed, HasJoined, HasLeft, HasCleared, HasLists, HasListsBut}
-use Rattle.promise_graph.proofs.Lists.{none_some, some_same, equal_yes, equal_not, is_some_of, all_filter, of_all}
+use Rattle.promise_graph.proofs.Lists.{equal_yes, equal_not, is_some_of}
 use Rattle.promise_graph.proofs.Numbered.{one_slot}
 use Rattle.promise_graph.proofs.Leaving.{map_dropped}
 use Rattle.promise_graph.proofs.Renamed.{all_more}

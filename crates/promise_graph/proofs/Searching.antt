@@ -1,6 +1,6 @@
 -- A bucket is searched for the slots of one list.
-use Rattle.std.proofs.Common.{◌≡◌, ◌≢◌, ◌∙◌, ℕ, zero, suc, ◌+◌, ◌-◌, ◌<◌, List, [], ◌∷◌, ◌++◌, Option, None, Some, Bool, true, false, cond, length, drop, arith, refl, sym, ap, inl, inr, subst, slice_get, add-one}
-use Rattle.std.specs.Prelude.{nat_eq, find, filter, ◌==◌, ◌||◌}
+use Rattle.std.proofs.Common.{◌≡◌, ◌∙◌, ℕ, zero, suc, ◌+◌, ◌-◌, ◌<◌, List, [], ◌∷◌, ◌++◌, Option, None, Some, Bool, true, false, cond, length, drop, arith, refl, sym, ap, inl, inr, slice_get}
+use Rattle.std.specs.Prelude.{nat_eq, find, filter, ◌||◌}
 use Rattle.std.specs.List.{IsDistinct}
 use Rattle.std.proofs.lemmas.Bool.{false≢true, eqb-true, eq-eqb, cases_Bool}
 use Rattle.kj_base.specs.Queue.{first_of}

@@ -1,5 +1,5 @@
 -- Members of lists: the tasks of a set, and the Wraps of a canceler.
-use Rattle.std.specs.Prelude.{◌≡◌, ◌<◌, ℕ, List, [], ◌∷◌, ◌++◌, Option, None, Some, Bool, true, false, find, reverse, ◌==◌, if◌then◌else◌}
+use Rattle.std.specs.Prelude.{◌≡◌, ℕ, List, [], ◌∷◌, ◌++◌, Option, None, Some, true, false, find, reverse, ◌==◌, if◌then◌else◌}
 use Rattle.kj_base.specs.declared.numbers.Name.{Name}
 use Rattle.kj_model.specs.Nodes.{is_in, dropped}
 use Rattle.kj_model.specs.World.{World, Held, Group, Canceler, held_at}

@@ -1,5 +1,4 @@
 use Rattle.std.specs.Prelude.{nat_eq}
-use Rattle.std.specs.List.{IsDistinct}
 use Rattle.std.proofs.lemmas.Map.Keys.{IsDistinct-tail}
 use Rattle.std.proofs.Common.{true, subst, ◌≡◌, ◌∙◌, length, arith, sym, ap, Some}
 use Rattle.linked_lists.specs.Lists.{is_in, list_of, next_of, previous_of}

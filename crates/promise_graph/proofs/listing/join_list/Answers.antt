@@ -1,4 +1,4 @@
-use Rattle.std.proofs.Common.{◌∙◌, sym, true}
+use Rattle.std.proofs.Common.{◌∙◌, sym}
 use Rattle.std.proofs.lemmas.Bool.{false≢true}
 use Rattle.promise_graph.proofs.Members.{given_absent}
 use Rattle.promise_graph.proofs.Listings.{joined, listed_in}

@@ -1,4 +1,4 @@
-use Rattle.std.proofs.Common.{◌≡◌, ◌∙◌, ◌<◌, ℕ, length, Option, sym, ap, inl, inr, subst}
+use Rattle.std.proofs.Common.{◌∙◌, ◌<◌, ℕ, length, Option, sym, ap, inl, inr, subst}
 use Rattle.std.specs.Prelude.{IsSome}
 use Rattle.std.proofs.lemmas.Bool.{cases_eq, false≢true}
 use Rattle.kj_base.specs.declared.numbers.Name.{Name}

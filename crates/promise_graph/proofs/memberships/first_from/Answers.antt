@@ -1,4 +1,4 @@
-use Rattle.std.proofs.Common.{◌≡◌, ◌∙◌, ◌<◌, ℕ, suc, Option, Some, true, IfSome, sym, subst, slice_get}
+use Rattle.std.proofs.Common.{◌≡◌, ◌∙◌, ◌<◌, ℕ, suc, Option, true, IfSome, sym, subst}
 use Rattle.linked_lists.specs.Lists.{members, is_in}
 use Rattle.promise_graph.specs.Memberships.{list_at, is_list}
 use Rattle.promise_graph.proofs.Searching.{find_here, find_past, step_place, step_found, places_left, places_fall}

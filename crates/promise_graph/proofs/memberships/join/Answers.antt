@@ -1,8 +1,7 @@
 use Rattle.std.proofs.Common.{ℕ, Some, subst, length, sym}
 use Rattle.std.specs.Vec.{with_item}
 use Rattle.std.proofs.lemmas.List.{get_or-set_same, get_or-set_other, length-set}
-use Rattle.std.specs.Prelude.{None, ◌<◌, IsTrue}
-use Rattle.std.proofs.lemmas.Bool.{false≢true}
+use Rattle.std.specs.Prelude.{None, ◌<◌}
 use Rattle.linked_lists.specs.Lists.{PutsBehind, KeepsOtherLists}
 use Rattle.promise_graph.proofs.Buckets.{joined_kept, has_joined}
 use Rattle.promise_graph.proofs.memberships.join.Goals as goal

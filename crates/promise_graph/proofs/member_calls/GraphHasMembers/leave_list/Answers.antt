@@ -1,5 +1,4 @@
 use Rattle.promise_graph.proofs.Frames.{lists_seen}
-use Rattle.promise_graph.proofs.Marked.{stands_seen}
 use Rattle.promise_graph.proofs.member_calls.GraphHasMembers.leave_list.Goals as goal
 
 pub returns-clause-members : goal.returns-clause-members
