@@ -2,7 +2,8 @@
 //! be taken as the head of the list of the others. Each call takes constant time and no memory.
 #![tactic(auto)]
 
-ghost use Rattle.std.specs.Prelude.{◌≡◌, ◌≢◌, ◌<◌, ◌≤◌, ◌^◌, ◌↔◌, ℕ, [], true, length, slice_get, IfOk, IfSome, IsTrue};
+ghost use Rattle.std.specs.Prelude.{◌≡◌, ◌≢◌, ◌<◌, ◌≤◌, ◌^◌, ◌↔◌, ℕ, [], true, length, slice_get, IfOk, IfSome, IsTrue, nat_eq};
+ghost use Rattle.std.specs.List.{IsDistinct};
 ghost use Rattle.linked_lists.specs.Lists.{members, is_in, member_behind, IsUnlisted, PutsBefore, PutsBehind, KeepsOtherLists, TakesOut, next_of, previous_of, redirected};
 
 use kj_base::NoMemory;
@@ -76,6 +77,7 @@ impl LinkedLists {
         ensures after { result ≡ member_behind member (members self.now head) }
         ensures member { IfSome result (λ after. is_in after (members self.now head) ≡ true) }
         ensures below { IfSome result (λ after. after < length self.now) }
+        ensures apart { IsDistinct nat_eq (members self.now head) }
     {
         let next = self.links[member as usize].next;
         if next == head { None } else { Some(next) }

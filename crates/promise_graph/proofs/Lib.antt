@@ -23,3 +23,7 @@ pub mod Members
 pub mod Ruled
 pub mod Replaced
 pub mod Following
+pub mod Buckets
+pub mod Searching
+pub mod Listings
+pub mod Frames

@@ -171,7 +171,7 @@ module _ (at new : ℕ → Option Node) (m m' : Marks) (slot n : ℕ) (k : AreNu
     | inr d ↦ d (one_slot at m k s slot n (sym (others s d) ∙ h) live)
   ]
 
-  given_gone : (x : ℕ) → is_given m'.numbers.items x ≡ (is_given m.numbers.items x && not (x == n))
+  pub given_gone : (x : ℕ) → is_given m'.numbers.items x ≡ (is_given m.numbers.items x && not (x == n))
   given_gone x = elim (cases_eq x n) [
     | inl p ↦ ap (is_given m'.numbers.items) p ∙ given_absent new m' k' n gone_absent ∙ sym (ap (λ (b : Bool). is_given m.numbers.items x && not b) (equal_yes x n p) ∙ swap_case (is_given m.numbers.items x) false)
     | inr d ↦ by_slot (slot_of x m.numbers.items) (slot_is at m k x) d ∙ sym (ap (λ (b : Bool). is_given m.numbers.items x && not b) (equal_not x n d) ∙ swap_case (is_given m.numbers.items x) true)
@@ -184,7 +184,7 @@ module _ (at new : ℕ → Option Node) (m m' : Marks) (slot n : ℕ) (k : AreNu
       ]) ∙ sym (given_absent at m k x a)
       by_slot (Some s) h d = given_live new m' k' s x (others s (λ p. d (some_same x n (sym h ∙ ap (number_at at) p ∙ live))) ∙ h) ∙ sym (given_live at m k s x h)
 
-  number_still : (s : ℕ) → s ≢ slot → 0 < slice_index_or m.numbers.items s 0 → slice_index_or m'.numbers.items s 0 ≡ slice_index_or m.numbers.items s 0
+  pub number_still : (s : ℕ) → s ≢ slot → 0 < slice_index_or m.numbers.items s 0 → slice_index_or m'.numbers.items s 0 ≡ slice_index_or m.numbers.items s 0
   number_still s d h = number_is new m' k' s (slice_index_or m.numbers.items s 0) (others s d ∙ number_there at m k s h)
 
   pub members_gone : (r0 r : Rings) (listed : List ℕ) → IsCut r0 r slot → ArePaired r0 (m.slots + 1) → HasMembers m.numbers.items r0 m.slots m.next listed → HasMembers m'.numbers.items r m.slots m.next listed
@@ -208,7 +208,7 @@ module _ (at new : ℕ → Option Node) (m m' : Marks) (slot n : ℕ) (k : AreNu
 -- ---- a node comes
 
 module _ (at new : ℕ → Option Node) (m m' : Marks) (slot : ℕ) (k : AreNumbered at m) (k' : AreNumbered new m') (free : number_at at slot ≡ None) (here : number_at new slot ≡ Some m.next) (others : (s : ℕ) → s ≢ slot → number_at new s ≡ number_at at s) where
-  given_still : (x : ℕ) → x < m.next → is_given m'.numbers.items x ≡ is_given m.numbers.items x
+  pub given_still : (x : ℕ) → x < m.next → is_given m'.numbers.items x ≡ is_given m.numbers.items x
   given_still x low = by_slot (slot_of x m.numbers.items) (slot_is at m k x)
     where
       by_slot : (o : Option ℕ) → Finds at x o → is_given m'.numbers.items x ≡ is_given m.numbers.items x
@@ -218,7 +218,7 @@ module _ (at new : ℕ → Option Node) (m m' : Marks) (slot : ℕ) (k : AreNumb
       ]) ∙ sym (given_absent at m k x a)
       by_slot (Some s) h = given_live new m' k' s x (others s (λ p. none_some x (sym free ∙ ap (number_at at) (sym p) ∙ h)) ∙ h) ∙ sym (given_live at m k s x h)
 
-  number_same : (s : ℕ) → 0 < slice_index_or m.numbers.items s 0 → slice_index_or m'.numbers.items s 0 ≡ slice_index_or m.numbers.items s 0
+  pub number_same : (s : ℕ) → 0 < slice_index_or m.numbers.items s 0 → slice_index_or m'.numbers.items s 0 ≡ slice_index_or m.numbers.items s 0
   number_same s h =
       let there = number_there at m k s h in
       number_is new m' k' s (slice_index_or m.numbers.items s 0) (others s (λ p. none_some _ (sym free ∙ ap (number_at at) (sym p) ∙ there)) ∙ there)
@@ -278,7 +278,7 @@ last_all : (P : ℕ → Type 0) (a : ℕ) (xs : List ℕ) → P a → AllByRecur
 last_all P a [] p h = p
 last_all P a (x ∷ xs) p h = last_all P x xs h.0 h.1
 
-live_given : (at : ℕ → Option Node) (m : Marks) (es : List Seen) → AreNumbered at m → HasNodes at m.rings es → (x : ℕ) → is_some (form_at x es) ≡ is_given m.numbers.items x
+pub live_given : (at : ℕ → Option Node) (m : Marks) (es : List Seen) → AreNumbered at m → HasNodes at m.rings es → (x : ℕ) → is_some (form_at x es) ≡ is_given m.numbers.items x
 live_given at m es k has x = by_slot (slot_of x m.numbers.items) (slot_is at m k x)
   where
     by_slot : (o : Option ℕ) → Finds at x o → is_some (form_at x es) ≡ is_given m.numbers.items x

@@ -1,12 +1,17 @@
 -- The laws of a keeper of nodes, for a graph.
-use Rattle.std.proofs.Common.{ℕ, List, ◌∷◌, ◌++◌, Option, Bool, IsTrue, map, sym, subst}
+use Rattle.std.proofs.Common.{◌≡◌, ◌∙◌, ℕ, List, ◌∷◌, ◌++◌, Option, Bool, IsTrue, map, ap, sym, subst}
+use Rattle.std.specs.Prelude.{filter, reverse}
 use Rattle.std.proofs.lemmas.List.{map-append}
 use Rattle.kj_base.specs.Queue.{Events}
 use Rattle.kj_base.specs.Places.{Spot, Row, row}
 use Rattle.kj_base.specs.declared.nodes.Node.{Node}
+use Rattle.kj_model.specs.Nodes.{is_in}
 use Rattle.kj_model.specs.World.{World}
 use Rattle.promise_nodes.specs.Kept.{SameNodes}
 use Rattle.promise_graph.specs.declared.fields.Marks.{Marks}
+use Rattle.promise_graph.specs.declared.memberships.Memberships.{Memberships}
+use Rattle.promise_graph.specs.Members.{is_given}
+use Rattle.promise_graph.specs.Memberships.{HasLists}
 use Rattle.promise_graph.specs.Rows.{row_at, room_of}
 use Rattle.promise_graph.specs.Standing.{Stands, StandsFor, stands_named}
 
@@ -29,3 +34,12 @@ pub one_of_two : (room : List Row → Bool) (m : Marks) → ((front : List Row) 
 one_of_two room m law front before back h =
     subst (λ (rows : List Row). IsTrue (room rows)) (sym (map-append (row_at m) front (row before 1 ∷ back)))
     (law (map (row_at m) front) (row_at m (row before 2)).before (map (row_at m) back) (subst (λ (rows : List Row). IsTrue (room rows)) (map-append (row_at m) front (row before 2 ∷ back)) h))
+
+-- lists don't depend on the function that tells them
+pub same_lists : (m : Marks) (x : Memberships) (lists others : ℕ → List ℕ) → ((list : ℕ) → others list ≡ lists list) → HasLists m x lists → HasLists m x others
+same_lists m x lists others same h = record {
+  named = λ list. ap (λ (ns : List ℕ). filter (is_given m.numbers.items) (reverse ns)) (same list) ∙ h.named list;
+  live = h.live;
+  below = λ list n i. h.below list n (sym (ap (is_in n) (same list)) ∙ i);
+  apart = λ n list other i j. h.apart n list other (sym (ap (is_in n) (same list)) ∙ i) (sym (ap (is_in n) (same other)) ∙ j);
+}

@@ -8,3 +8,4 @@ pub mod Rows
 pub mod Named
 pub mod Laws
 pub mod Visits
+pub mod Memberships

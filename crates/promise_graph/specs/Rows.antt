@@ -1,5 +1,5 @@
 -- Rows of nodes, and what is added with a node.
-use Rattle.std.specs.Prelude.{◌≡◌, ◌≢◌, ℕ, ◌+◌, List, Option, None, Some, Bool, true, map, length, is_some, if◌then◌else◌}
+use Rattle.std.specs.Prelude.{◌≡◌, ◌≢◌, ℕ, ◌+◌, List, Option, None, Some, Bool, true, map, length, is_some, ◌==◌, if◌then◌else◌}
 use Rattle.kj_base.specs.Places.{Spot, Row, row, spot_of}
 use Rattle.kj_base.specs.Store.{KeepsOthers}
 use Rattle.kj_base.specs.declared.nodes.Node.{Node}
@@ -63,3 +63,19 @@ pub record IsAdded (at new : ℕ → Option Node) (bare bare' : ℕ → Bool) (m
 -- a form that is that of a node, with the tree new in place of old
 abbrev pub IsReplaced : Option Node → ℕ → ℕ → FormCase → Type 0
 IsReplaced o old new form = (node : Node) (branches : List ℕ) → o ≡ Some node → shown branches form ≡ renamed_form old new (shown branches node.form)
+
+-- a node of this number came into a slot that was free, and the other slots have the numbers that they had
+pub record Comes (at new : ℕ → Option Node) (next : ℕ) : Type 0 where
+  pub slot : ℕ
+  pub free : number_at at slot ≡ None
+  pub here : number_at new slot ≡ Some next
+  pub others : (s : ℕ) → s ≢ slot → number_at new s ≡ number_at at s
+
+-- the number of a slot, where one number went
+abbrev pub gone_number : ℕ → Option ℕ → Option ℕ
+gone_number n None = None
+gone_number n (Some m) = if m == n then None else Some m
+
+-- the node of this number went, if there was one, and the other slots have the numbers that they had
+abbrev pub Goes : ℕ → (ℕ → Option Node) → (ℕ → Option Node) → Type 0
+Goes n at new = (s : ℕ) → number_at new s ≡ gone_number n (number_at at s)

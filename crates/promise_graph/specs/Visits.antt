@@ -6,6 +6,7 @@ use Rattle.promise_graph.specs.declared.fields.Marks.{Marks}
 use Rattle.promise_graph.specs.declared.fields.Fields.{Fields}
 use Rattle.promise_graph.specs.declared.visits.Visit.{Visit}
 use Rattle.promise_graph.specs.declared.visits.Visits.{Visits}
+use Rattle.promise_graph.specs.declared.memberships.Memberships.{Memberships}
 use Rattle.promise_graph.specs.Slots.{slot_of}
 
 -- what stands at a slot that was never marked
@@ -43,13 +44,14 @@ pub record IsNoted (slot : ℕ) (mark : Mark) (old new : Visits) : Type 0 where
   pub here : mark_in new.epoch (visit_at new slot) ≡ mark
   pub elsewhere : (s : ℕ) → s ≢ slot → mark_in new.epoch (visit_at new s) ≡ mark_in old.epoch (visit_at old s)
 
--- the fields of a graph, with what walks note
+-- the fields of a graph, with what walks note and the members of lists
 pub record Whole (St Q : Type 0) : Type 0 where
   pub store : St
   pub queue : Q
   pub marks : Marks
   pub visits : Visits
+  pub memberships : Memberships
 
--- the whole of these fields and notes
-abbrev pub whole : {St Q : Type 0} → Fields St Q → Visits → Whole St Q
-whole fields visits = record { store = fields.store; queue = fields.queue; marks = fields.marks; visits = visits }
+-- the whole of these parts
+abbrev pub whole : {St Q : Type 0} → Fields St Q → Visits → Memberships → Whole St Q
+whole fields visits memberships = record { store = fields.store; queue = fields.queue; marks = fields.marks; visits = visits; memberships = memberships }

@@ -9,7 +9,7 @@ ghost use Rattle.promise_nodes.specs.Shown.{shown, link_number};
 ghost use Rattle.promise_nodes.specs.Kept.{IsPart, AreRoots, AreBuilt, AreRowsBuilt, RisesIn, OnlyFalls, OnlyRises, rows_left};
 ghost use Rattle.promise_graph.specs.Kept.{IsKept, IsSound, AreNumbered, is_taken, is_listed, is_plain, form_parts};
 ghost use Rattle.promise_graph.specs.Standing.{Stands, IsSeen};
-ghost use Rattle.promise_graph.specs.Rows.{FindsBefore, name_before, room_of, IsAdded};
+ghost use Rattle.promise_graph.specs.Rows.{Comes, FindsBefore, name_before, room_of, IsAdded};
 
 use crate::fields::{Fields, Marks};
 use crate::finding::find;
@@ -137,6 +137,7 @@ pub(crate) fn build<St: Store + Drop, Q: Queue + Drop>(
         (room_of (St.room g.old.store) g.old.marks (row (link_number before) count ∷ more))
         → IsTrue
         (room_of (St.room g.new.store) g.new.marks (rows_left g.old.marks.next count more)) }
+    ensures comes { Comes (St.node_at g.old.store) (St.node_at g.new.store) g.old.marks.next }
 {
     make_room(&g.store, &mut g.marks);
     let parts = parts(&form);

@@ -3,7 +3,8 @@ ghost use Rattle.std.specs.Prelude.{◌≡◌, ◌<◌, ◌≤◌, ◌+◌, ℕ,
 
 use crate::graph::Graph;
 use crate::{
-    building, events, finding, fitting, freeing, hubs, own_set, owners, putting, replacing, visits,
+    building, events, finding, fitting, freeing, hubs, listing, own_set, owners, putting,
+    replacing, visits,
 };
 use kj_base::{Form, Link, Queue, Store};
 use promise_nodes::{Mark, NodeRow, Nodes, Way};
@@ -13,9 +14,12 @@ impl<St: Store + Drop, Q: Queue + Drop> Nodes for Graph<St, Q> {
     ghost use Rattle.promise_graph.specs.Standing.{StandsFor};
     ghost use Rattle.promise_graph.specs.Rows.{room_of};
     ghost use Rattle.promise_graph.specs.Visits.{mark_of};
+    ghost use Rattle.promise_graph.specs.Memberships.{HasLists};
 
     ghost stands = { λ g w. StandsFor (St.node_at g.store) (Q.events g.queue) (St.stands g.store)
         g.marks w };
+
+    ghost has_lists = { λ g lists. HasLists g.marks g.memberships lists };
 
     ghost slots = { λ g. g.marks.slots };
 
@@ -70,6 +74,7 @@ impl<St: Store + Drop, Q: Queue + Drop> Nodes for Graph<St, Q> {
     }
 
     fn drop_node(&mut self, node: Link) {
+        listing::leave_any(&self.fields, &mut self.memberships, node);
         freeing::drop_node(&mut self.fields, node);
     }
 

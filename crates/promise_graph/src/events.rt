@@ -159,6 +159,7 @@ pub(crate) fn set_firing<St: Store + Drop, Q: Queue + Drop>(
         g.new.marks (record w { firing = link_number firing }) }
     ensures falls { Falls (St.node_at g.old.store) (St.node_at g.new.store) g.old.marks
         g.new.marks }
+    ensures numbers { g.new.marks.numbers.items ≡ g.old.marks.numbers.items }
 {
     g.marks.firing = firing;
 }
@@ -180,6 +181,7 @@ pub(crate) fn set_awaited<St: Store + Drop, Q: Queue + Drop>(
         g.new.marks (record w { awaited = a }) }
     ensures falls { Falls (St.node_at g.old.store) (St.node_at g.new.store) g.old.marks
         g.new.marks }
+    ensures numbers { g.new.marks.numbers.items ≡ g.old.marks.numbers.items }
 {
     g.marks.awaited = awaited;
 }

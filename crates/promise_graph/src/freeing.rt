@@ -4,6 +4,7 @@ ghost use Rattle.kj_model.specs.World.{World};
 ghost use Rattle.kj_model.specs.Changes.{gone_world};
 ghost use Rattle.promise_graph.specs.Slots.{number_at, IsAbsent};
 ghost use Rattle.promise_graph.specs.Kept.{IsKept, Falls, is_listed};
+ghost use Rattle.promise_graph.specs.Rows.{Goes};
 ghost use Rattle.promise_graph.specs.Standing.{Stands};
 
 use crate::fields::Fields;
@@ -34,6 +35,7 @@ fn drop_slot<St: Store + Drop, Q: Queue + Drop>(g: &mut Fields<St, Q>, slot: Slo
         g.new.marks (gone_world n w) }
     ensures falls { Falls (St.node_at g.old.store) (St.node_at g.new.store) g.old.marks
         g.new.marks }
+    ensures goes { Goes n (St.node_at g.old.store) (St.node_at g.new.store) }
 {
     g.queue.disarm(slot.0 + 1);
     g.store.free(slot);
@@ -57,6 +59,7 @@ fn drop_absent<St: Store + Drop, Q: Queue + Drop>(g: &mut Fields<St, Q>, n: u64)
         g.new.marks (gone_world n w) }
     ensures falls { Falls (St.node_at g.old.store) (St.node_at g.new.store) g.old.marks
         g.new.marks }
+    ensures goes { Goes n (St.node_at g.old.store) (St.node_at g.new.store) }
 {
     if n == 0 {
         g.queue.disarm(0);
@@ -77,6 +80,7 @@ pub(crate) fn drop_node<St: Store + Drop, Q: Queue + Drop>(g: &mut Fields<St, Q>
         g.new.marks (gone_world node.number.0 w) }
     ensures falls { Falls (St.node_at g.old.store) (St.node_at g.new.store) g.old.marks
         g.new.marks }
+    ensures goes { Goes node.number.0 (St.node_at g.old.store) (St.node_at g.new.store) }
 {
     match find(g, node) {
         Some(slot) => drop_slot(g, slot, node.number.0),

@@ -4,9 +4,11 @@ ghost use Rattle.kj_base.specs.Queue.{no_events};
 ghost use Rattle.kj_base.specs.declared.numbers.Limits.{Limits};
 ghost use Rattle.kj_model.specs.World.{new_world};
 ghost use Rattle.promise_graph.specs.Standing.{StandsFor};
+ghost use Rattle.promise_graph.specs.Memberships.{HasLists};
 
 use crate::fields::Fields;
 use crate::making::new_marks;
+use crate::memberships::{Memberships, new_memberships};
 use crate::visits::{Visits, new_visits};
 use kj_base::{Limits, MAX_SLOTS, NoMemory, Queue, Store};
 use std::alloc::Global;
@@ -17,6 +19,7 @@ use std::marker::Model;
 pub struct Graph<St: Store + Drop, Q: Queue + Drop> {
     pub(crate) fields: Fields<St, Q>,
     pub(crate) visits: Visits,
+    pub(crate) memberships: Memberships,
 }
 
 impl<St: Store + Drop, Q: Queue + Drop> Model for Graph<St, Q> {
@@ -25,12 +28,13 @@ impl<St: Store + Drop, Q: Queue + Drop> Model for Graph<St, Q> {
     ghost Value = { Whole St Q };
 
     ghost use Rattle.promise_graph.specs.Kept.{IsKept};
+    ghost use Rattle.promise_graph.specs.Memberships.{AreListed};
 
-    ghost view = { λ a. whole a.fields a.visits };
+    ghost view = { λ a. whole a.fields a.visits a.memberships };
 
     ghost invariant = { λ a. IsKept (St.node_at a.fields.store) (St.is_bare a.fields.store)
         (Q.events a.fields.queue) (St.slots a.fields.store) (Q.size a.fields.queue) a.fields.marks
-        × AreVisits a.visits a.fields.marks.slots };
+        × AreVisits a.visits a.fields.marks.slots × AreListed a.memberships a.fields.marks.slots };
 }
 
 impl<St: Store + Drop, Q: Queue + Drop> Graph<St, Q> {
@@ -46,9 +50,11 @@ impl<St: Store + Drop, Q: Queue + Drop> Graph<St, Q> {
             (St.node_at g.store) (Q.events g.queue) (St.stands g.store) g.marks
             (new_world all)) }
         ensures slots { IfOk result (λ g. g.marks.slots ≡ limits.slots) }
+        ensures members { IfOk result (λ g. HasLists g.marks g.memberships (λ list. [])) }
     {
         let marks = new_marks(alloc, limits.slots)?;
         let visits = new_visits(alloc, limits.slots)?;
+        let memberships = new_memberships(alloc, limits.slots)?;
         Ok(Graph {
             fields: Fields {
                 store,
@@ -56,6 +62,7 @@ impl<St: Store + Drop, Q: Queue + Drop> Graph<St, Q> {
                 marks,
             },
             visits,
+            memberships,
         })
     }
 }

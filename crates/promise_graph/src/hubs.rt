@@ -36,6 +36,7 @@ fn leave_slot<St: Store + Drop, Q: Queue + Drop>(g: &mut Fields<St, Q>, slot: Sl
     ensures unlisted { is_listed (St.node_at g.new.store) g.new.marks branch ≡ false }
     ensures falls { Falls (St.node_at g.old.store) (St.node_at g.new.store) g.old.marks
         g.new.marks }
+    ensures numbers { g.new.marks.numbers.items ≡ g.old.marks.numbers.items }
 {
     cut(&mut g.marks.rings, slot.0);
 }
@@ -55,6 +56,7 @@ fn leave<St: Store + Drop, Q: Queue + Drop>(g: &mut Fields<St, Q>, branch: Link)
     ensures unlisted { is_listed (St.node_at g.new.store) g.new.marks branch.number.0 ≡ false }
     ensures falls { Falls (St.node_at g.old.store) (St.node_at g.new.store) g.old.marks
         g.new.marks }
+    ensures numbers { g.new.marks.numbers.items ≡ g.old.marks.numbers.items }
 {
     if let Some(slot) = find(g, branch) {
         leave_slot(g, slot, branch.number.0);
@@ -117,6 +119,7 @@ pub(crate) fn leave_hub<St: Store + Drop, Q: Queue + Drop>(
     ensures unlisted { is_listed (St.node_at g.new.store) g.new.marks branch.number.0 ≡ false }
     ensures falls { Falls (St.node_at g.old.store) (St.node_at g.new.store) g.old.marks
         g.new.marks }
+    ensures numbers { g.new.marks.numbers.items ≡ g.old.marks.numbers.items }
 {
     leave(g, branch);
     is_unreferenced(g, hub)
@@ -226,6 +229,7 @@ fn join_slot<St: Store + Drop, Q: Queue + Drop>(
         g.new.marks (with_branch_in branch hub (form_at hub w.nodes) w) }
     ensures rises { Rises (branch ∷ []) (St.node_at g.old.store) (St.node_at g.new.store)
         g.old.marks g.new.marks }
+    ensures numbers { g.new.marks.numbers.items ≡ g.old.marks.numbers.items }
 {
     join(&mut g.marks.rings, slot.0, hub_slot.0);
 }
@@ -250,6 +254,7 @@ pub(crate) fn join_hub<St: Store + Drop, Q: Queue + Drop>(
         (with_branch_in branch.number.0 hub.number.0 (form_at hub.number.0 w.nodes) w) }
     ensures rises { Rises (branch.number.0 ∷ []) (St.node_at g.old.store) (St.node_at g.new.store)
         g.old.marks g.new.marks }
+    ensures numbers { g.new.marks.numbers.items ≡ g.old.marks.numbers.items }
 {
     let Some(slot) = find(g, branch) else {
         return;

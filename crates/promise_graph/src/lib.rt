@@ -11,7 +11,10 @@ mod freeing;
 mod graph;
 mod hubs;
 mod index;
+mod listing;
 mod making;
+mod member_calls;
+mod memberships;
 mod own_set;
 mod owners;
 mod parts;
@@ -23,6 +26,7 @@ mod visits;
 pub use fields::{Fields, Marks, Rings};
 pub use graph::Graph;
 pub use index::Entry;
+pub use memberships::Memberships;
 pub use parts::Span;
 pub use visits::{Visit, Visits};
 

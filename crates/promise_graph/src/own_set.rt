@@ -31,6 +31,7 @@ fn enlist_slot<St: Store + Drop, Q: Queue + Drop>(g: &mut Fields<St, Q>, slot: S
         g.new.marks (with_detached n w) }
     ensures falls { Falls (St.node_at g.old.store) (St.node_at g.new.store) g.old.marks
         g.new.marks }
+    ensures numbers { g.new.marks.numbers.items ≡ g.old.marks.numbers.items }
 {
     let head = g.marks.slots;
     cut(&mut g.marks.tasks, slot.0);
@@ -52,6 +53,7 @@ pub(crate) fn enlist<St: Store + Drop, Q: Queue + Drop>(g: &mut Fields<St, Q>, t
         g.new.marks (with_detached task.number.0 w) }
     ensures falls { Falls (St.node_at g.old.store) (St.node_at g.new.store) g.old.marks
         g.new.marks }
+    ensures numbers { g.new.marks.numbers.items ≡ g.old.marks.numbers.items }
 {
     if let Some(slot) = find(g, task) {
         enlist_slot(g, slot, task.number.0);
@@ -72,6 +74,7 @@ fn delist_slot<St: Store + Drop, Q: Queue + Drop>(g: &mut Fields<St, Q>, slot: S
         g.new.marks (without_detached n w) }
     ensures falls { Falls (St.node_at g.old.store) (St.node_at g.new.store) g.old.marks
         g.new.marks }
+    ensures numbers { g.new.marks.numbers.items ≡ g.old.marks.numbers.items }
 {
     cut(&mut g.marks.tasks, slot.0);
 }
@@ -89,6 +92,7 @@ pub(crate) fn delist<St: Store + Drop, Q: Queue + Drop>(g: &mut Fields<St, Q>, t
         g.new.marks (without_detached task.number.0 w) }
     ensures falls { Falls (St.node_at g.old.store) (St.node_at g.new.store) g.old.marks
         g.new.marks }
+    ensures numbers { g.new.marks.numbers.items ≡ g.old.marks.numbers.items }
 {
     if let Some(slot) = find(g, task) {
         delist_slot(g, slot, task.number.0);

@@ -92,6 +92,7 @@ fn put_in<St: Store + Drop, Q: Queue + Drop>(g: &mut Fields<St, Q>, slot: Slot, 
         g.new.marks (put_form n form w) }
     ensures falls { Falls (St.node_at g.old.store) (St.node_at g.new.store) g.old.marks
         g.new.marks }
+    ensures numbers { g.new.marks.numbers.items ≡ g.old.marks.numbers.items }
 {
     set_form(g, slot, n, form);
 }
@@ -111,6 +112,7 @@ pub(crate) fn put<St: Store + Drop, Q: Queue + Drop>(g: &mut Fields<St, Q>, node
         g.new.marks (put_form node.number.0 form w) }
     ensures falls { Falls (St.node_at g.old.store) (St.node_at g.new.store) g.old.marks
         g.new.marks }
+    ensures numbers { g.new.marks.numbers.items ≡ g.old.marks.numbers.items }
 {
     let Some(slot) = find(g, node) else {
         return;

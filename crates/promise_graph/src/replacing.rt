@@ -126,6 +126,7 @@ fn replace_under<St: Store + Drop, Q: Queue + Drop>(
         (is_plain (St.node_at g.new.store) g.new.marks) }
     ensures next { g.new.marks.next ≡ g.old.marks.next }
     ensures slots { g.new.marks.slots ≡ g.old.marks.slots }
+    ensures numbers { g.new.marks.numbers.items ≡ g.old.marks.numbers.items }
 {
     set_form(g, owner.slot, owner.number.0, form);
     take_part(&g.store, &mut g.marks, new, owner);
@@ -158,6 +159,7 @@ pub(crate) fn replace<St: Store + Drop, Q: Queue + Drop>(
         (is_plain (St.node_at g.new.store) g.new.marks) }
     ensures next { g.new.marks.next ≡ g.old.marks.next }
     ensures slots { g.new.marks.slots ≡ g.old.marks.slots }
+    ensures numbers { g.new.marks.numbers.items ≡ g.old.marks.numbers.items }
 {
     let Some(owner) = owner(g, old) else {
         return;

@@ -3,9 +3,11 @@ ghost use Rattle.std.specs.Prelude.{◌≤◌};
 
 use crate::Graph;
 use event_list::EventList;
-use kj_base::{Form, Limits, MAX_SLOTS, NoMemory, NodeId, Outcome, Words};
+use kj_base::{
+    Form, Limits, Link, MAX_SLOTS, Name, NoMemory, NodeId, Outcome, Queue, Store, Words,
+};
 use node_table::NodeTable;
-use promise_nodes::{Mark, NodeRow, Nodes, Way};
+use promise_nodes::{HasMembers, Mark, NodeRow, Nodes, Way};
 use std::alloc::Global;
 use std::test::Fail;
 
@@ -128,5 +130,82 @@ fn marks_nodes(rt: HostRuntime) -> Result<(), Fail> {
     assert!(rt; graph.mark_of(first) == Mark::Gone);
     assert!(rt; graph.mark_of(second) == Mark::Unmarked);
     assert!(rt; graph.form(first).is_some());
+    Ok(())
+}
+
+// Whether these are the newest two members of a list, from the newest on.
+fn are_newest<St: Store + Drop, Q: Queue + Drop>(
+    graph: &Graph<St, Q>,
+    list: Name,
+    newest: Link,
+    older: Option<Link>,
+) -> bool {
+    graph.newest_member(list) == Some(newest) && graph.older_member(newest) == older
+}
+
+// Three leaves, of which the first two and the last are members of two lists that share a bucket: with four slots there
+// are five of them.
+fn three_members(
+    graph: &mut Graph<NodeTable, EventList>,
+    list: Name,
+    other: Name,
+) -> Option<(Link, Link, Link)> {
+    if graph.next() > 1 || !graph.fits(&[ANEW]) {
+        return None;
+    }
+    let first = graph.build(None, Form::Later);
+    if !graph.fits(&[ANEW]) {
+        return None;
+    }
+    let second = graph.build(None, Form::Later);
+    if !graph.fits(&[ANEW]) {
+        return None;
+    }
+    let last = graph.build(None, Form::Later);
+    graph.join_list(first, list);
+    graph.join_list(last, other);
+    graph.join_list(second, list);
+    Some((first, second, last))
+}
+
+#[test]
+fn keeps_members_of_lists(rt: HostRuntime) -> Result<(), Fail> {
+    let mut graph = table_graph(rt.alloc(), 4)?;
+    let (list, other) = (Name(2), Name(7));
+    assert!(rt; graph.newest_member(list).is_none());
+    let Some((first, second, last)) = three_members(&mut graph, list, other) else {
+        return Err(Fail::new("no room"));
+    };
+    assert!(rt; graph.list_of(first) == Some(list));
+    assert!(rt; graph.list_of(last) == Some(other));
+    assert!(rt; are_newest(&graph, list, second, Some(first)));
+    assert!(rt; are_newest(&graph, other, last, None));
+    assert!(rt; graph.older_member(first).is_none());
+    // It is no member of the other list.
+    graph.leave_list(second, other);
+    assert!(rt; are_newest(&graph, list, second, Some(first)));
+    graph.leave_list(second, list);
+    assert!(rt; graph.list_of(second).is_none());
+    assert!(rt; are_newest(&graph, list, first, None));
+    Ok(())
+}
+
+#[test]
+fn members_go(rt: HostRuntime) -> Result<(), Fail> {
+    let mut graph = table_graph(rt.alloc(), 4)?;
+    let (list, other) = (Name(2), Name(7));
+    let Some((first, second, last)) = three_members(&mut graph, list, other) else {
+        return Err(Fail::new("no room"));
+    };
+    assert!(rt; !graph.leave_hub(second, second));
+    graph.drop_node(second);
+    assert!(rt; are_newest(&graph, list, first, None));
+    assert!(rt; graph.older_member(second).is_none());
+    graph.clear_list(list);
+    assert!(rt; graph.newest_member(list).is_none());
+    assert!(rt; graph.list_of(first).is_none());
+    assert!(rt; are_newest(&graph, other, last, None));
+    graph.join_list(first, other);
+    assert!(rt; are_newest(&graph, other, first, Some(last)));
     Ok(())
 }

@@ -12,6 +12,7 @@ ghost use Rattle.kj_model.specs.Effects.{with_branch_in, with_detached, disarmed
 ghost use Rattle.kj_model.specs.Calls.{rewound_world, taken_world, hubs_of};
 ghost use Rattle.promise_nodes.specs.Shown.{shown, link_number, Sees, SeesOwner, way_of};
 ghost use Rattle.promise_nodes.specs.Once.{AreOnce};
+ghost use Rattle.promise_nodes.specs.Members.{KeepsLists};
 ghost use Rattle.promise_nodes.specs.Kept.{SameNodes, IsLive, newest_task, without_detached, IsEvent, IsBranch, IsPart, IsReplaceable, KeepsKind, is_unreferenced, awaited_root, rows_left, OnlyFalls, OnlyRises, RisesIn, IsPlain, ShowsPlain, AreRoots, AreBuilt, AddsNone, AreRowsBuilt, put_form, rows_seen, tree_replaced, AreUnmarked, IsMarked, Same, SameRows};
 
 use kj_base::{Form, Link};
@@ -59,6 +60,9 @@ pub trait Nodes {
 
     /// It stands for this world.
     ghost stands: { Self → World → Type 0 };
+
+    /// The live ones among the members of each list are those that it keeps. A node that goes leaves its list.
+    ghost has_lists: { Self → (ℕ → List ℕ) → Type 0 };
 
     /// The number of slots, which no call changes.
     ghost slots: { Self → ℕ };
@@ -147,6 +151,7 @@ pub trait Nodes {
         ensures taken { RisesIn (parts_of (shown [] form)) (is_taken self.old) (is_taken self.new) }
         ensures listed { OnlyFalls (is_listed self.old) (is_listed self.new) }
         ensures plain { OnlyRises (is_plain self.old) (is_plain self.new) }
+        ensures lists { KeepsLists (has_lists self.old) (has_lists self.new) }
         ensures slots { slots self.new ≡ slots self.old };
 
     /// A node has this form now, where it is live; it has no new tree. A hub keeps its branches.
@@ -160,6 +165,7 @@ pub trait Nodes {
         ensures listed { OnlyFalls (is_listed self.old) (is_listed self.new) }
         ensures plain { OnlyRises (is_plain self.old) (is_plain self.new) }
         ensures next { next self.new ≡ next self.old }
+        ensures lists { KeepsLists (has_lists self.old) (has_lists self.new) }
         ensures slots { slots self.new ≡ slots self.old };
 
     /// A node goes, with its event.
@@ -172,6 +178,7 @@ pub trait Nodes {
         ensures listed { OnlyFalls (is_listed self.old) (is_listed self.new) }
         ensures plain { OnlyRises (is_plain self.old) (is_plain self.new) }
         ensures next { next self.new ≡ next self.old }
+        ensures lists { KeepsLists (has_lists self.old) (has_lists self.new) }
         ensures slots { slots self.new ≡ slots self.old };
 
     /// A branch is its hub's newest.
@@ -186,6 +193,7 @@ pub trait Nodes {
         ensures listed { RisesIn (branch.number.0 ∷ []) (is_listed self.old) (is_listed self.new) }
         ensures plain { OnlyRises (is_plain self.old) (is_plain self.new) }
         ensures next { next self.new ≡ next self.old }
+        ensures lists { KeepsLists (has_lists self.old) (has_lists self.new) }
         ensures slots { slots self.new ≡ slots self.old };
 
     /// A branch leaves its hub; whether the hub has neither name nor branch now.
@@ -204,6 +212,7 @@ pub trait Nodes {
         ensures listed { OnlyFalls (is_listed self.old) (is_listed self.new) }
         ensures plain { OnlyRises (is_plain self.old) (is_plain self.new) }
         ensures next { next self.new ≡ next self.old }
+        ensures lists { KeepsLists (has_lists self.old) (has_lists self.new) }
         ensures slots { slots self.new ≡ slots self.old };
 
     /// Whether a hub has neither name nor branch.
@@ -240,6 +249,7 @@ pub trait Nodes {
         ensures listed { OnlyFalls (is_listed self.old) (is_listed self.new) }
         ensures plain { OnlyRises (is_plain self.old) (is_plain self.new) }
         ensures next { next self.new ≡ next self.old }
+        ensures lists { KeepsLists (has_lists self.old) (has_lists self.new) }
         ensures slots { slots self.new ≡ slots self.old };
 
     /// A live node is the newest task of the loop's own set. A task that goes leaves that set.
@@ -253,6 +263,7 @@ pub trait Nodes {
         ensures listed { OnlyFalls (is_listed self.old) (is_listed self.new) }
         ensures plain { OnlyRises (is_plain self.old) (is_plain self.new) }
         ensures next { next self.new ≡ next self.old }
+        ensures lists { KeepsLists (has_lists self.old) (has_lists self.new) }
         ensures slots { slots self.new ≡ slots self.old };
 
     /// A node leaves the loop's own set, if it is there.
@@ -264,6 +275,7 @@ pub trait Nodes {
         ensures listed { OnlyFalls (is_listed self.old) (is_listed self.new) }
         ensures plain { OnlyRises (is_plain self.old) (is_plain self.new) }
         ensures next { next self.new ≡ next self.old }
+        ensures lists { KeepsLists (has_lists self.old) (has_lists self.new) }
         ensures slots { slots self.new ≡ slots self.old };
 
     /// The newest live task of the loop's own set.
@@ -286,6 +298,7 @@ pub trait Nodes {
         ensures listed { OnlyFalls (is_listed self.old) (is_listed self.new) }
         ensures plain { OnlyRises (is_plain self.old) (is_plain self.new) }
         ensures next { next self.new ≡ next self.old }
+        ensures lists { KeepsLists (has_lists self.old) (has_lists self.new) }
         ensures slots { slots self.new ≡ slots self.old };
 
     /// An event leaves the queue, if it is there.
@@ -297,6 +310,7 @@ pub trait Nodes {
         ensures listed { OnlyFalls (is_listed self.old) (is_listed self.new) }
         ensures plain { OnlyRises (is_plain self.old) (is_plain self.new) }
         ensures next { next self.new ≡ next self.old }
+        ensures lists { KeepsLists (has_lists self.old) (has_lists self.new) }
         ensures slots { slots self.new ≡ slots self.old };
 
     /// The first event leaves the queue; its node, or number 0 for the wait.
@@ -307,6 +321,7 @@ pub trait Nodes {
         ensures listed { OnlyFalls (is_listed self.old) (is_listed self.new) }
         ensures plain { OnlyRises (is_plain self.old) (is_plain self.new) }
         ensures next { next self.new ≡ next self.old }
+        ensures lists { KeepsLists (has_lists self.old) (has_lists self.new) }
         ensures slots { slots self.new ≡ slots self.old };
 
     /// The first insertion point of the queue goes to the front.
@@ -316,6 +331,7 @@ pub trait Nodes {
         ensures listed { OnlyFalls (is_listed self.old) (is_listed self.new) }
         ensures plain { OnlyRises (is_plain self.old) (is_plain self.new) }
         ensures next { next self.new ≡ next self.old }
+        ensures lists { KeepsLists (has_lists self.old) (has_lists self.new) }
         ensures slots { slots self.new ≡ slots self.old };
 
     /// This event fires, or none.
@@ -327,6 +343,7 @@ pub trait Nodes {
         ensures listed { OnlyFalls (is_listed self.old) (is_listed self.new) }
         ensures plain { OnlyRises (is_plain self.old) (is_plain self.new) }
         ensures next { next self.new ≡ next self.old }
+        ensures lists { KeepsLists (has_lists self.old) (has_lists self.new) }
         ensures slots { slots self.new ≡ slots self.old };
 
     /// A wait awaits this root, or none.
@@ -339,6 +356,7 @@ pub trait Nodes {
         ensures listed { OnlyFalls (is_listed self.old) (is_listed self.new) }
         ensures plain { OnlyRises (is_plain self.old) (is_plain self.new) }
         ensures next { next self.new ≡ next self.old }
+        ensures lists { KeepsLists (has_lists self.old) (has_lists self.new) }
         ensures slots { slots self.new ≡ slots self.old };
 
     /// No node has a mark.
@@ -350,6 +368,7 @@ pub trait Nodes {
         ensures plain { Same (is_plain self.old) (is_plain self.new) }
         ensures room { SameRows (room self.old) (room self.new) }
         ensures next { next self.new ≡ next self.old }
+        ensures lists { KeepsLists (has_lists self.old) (has_lists self.new) }
         ensures slots { slots self.new ≡ slots self.old };
 
     /// A live node has this mark in place of the one that it had.
@@ -364,6 +383,7 @@ pub trait Nodes {
         ensures plain { Same (is_plain self.old) (is_plain self.new) }
         ensures room { SameRows (room self.old) (room self.new) }
         ensures next { next self.new ≡ next self.old }
+        ensures lists { KeepsLists (has_lists self.old) (has_lists self.new) }
         ensures slots { slots self.new ≡ slots self.old };
 
     /// The mark of a node.

@@ -1,3 +1,5 @@
+use Rattle.std.specs.Prelude.{nat_eq}
+use Rattle.std.proofs.lemmas.Map.Keys.{IsDistinct-tail}
 use Rattle.std.proofs.Common.{true, subst, ◌≡◌, ◌∙◌, length, arith, sym, ap, Some}
 use Rattle.linked_lists.specs.Lists.{is_in, list_of, next_of, previous_of}
 use Rattle.linked_lists.proofs.Reading.{size_is, members_are, next_below, below_in, next_read, after_none, after_some, after_among}
@@ -49,3 +51,13 @@ returns-else-next-head-clause-below c =
       next_below (next_of links) (previous_of links) (length links) c.args.member (list_of links c.args.member) (c.self.invariant.rings c.args.member) within,
       size_is c.self.inside c.args.self.now c.self.view_is,
     )
+
+pub returns-then-next-head-clause-apart : goal.returns-then-next-head-clause-apart
+returns-then-next-head-clause-apart c =
+    let links = c.self.inside.links.items in
+    rw (members_are c.self.inside c.args.self.now c.args.head c.self.view_is) (IsDistinct-tail nat_eq c.args.head (list_of links c.args.head) (c.self.invariant.rings c.args.head).apart)
+
+pub returns-else-next-head-clause-apart : goal.returns-else-next-head-clause-apart
+returns-else-next-head-clause-apart c =
+    let links = c.self.inside.links.items in
+    rw (members_are c.self.inside c.args.self.now c.args.head c.self.view_is) (IsDistinct-tail nat_eq c.args.head (list_of links c.args.head) (c.self.invariant.rings c.args.head).apart)

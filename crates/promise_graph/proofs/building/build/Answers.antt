@@ -5,6 +5,7 @@ use Rattle.kj_base.specs.Store.{slot_number}
 use Rattle.kj_model.specs.Nodes.{is_in}
 use Rattle.promise_nodes.specs.Shown.{link_number}
 use Rattle.promise_graph.specs.declared.fields.Marks.{Marks}
+use Rattle.promise_graph.specs.Slots.{number_of}
 use Rattle.promise_graph.specs.Kept.{taker_at, form_parts, is_taken, is_listed}
 use Rattle.promise_graph.proofs.Adding.{Facts, sound_index, seen_index, added_index, before_slot_is, bare_before, kept_last, stands_last, taken_last, listed_last, plain_last, next_last, slots_last, root_last, rest_last, anew_last, unlisted_last}
 use Rattle.promise_graph.proofs.building.build.Goals as goal
@@ -51,6 +52,7 @@ returns g c =
       kept = kept_last at new _ _ _ _ _ _ _ _ m placed.marks last _ _ c.place_node-slot.result.0 c.args.form facts;
       stands = λ w st. stands_last at new _ _ _ _ _ _ _ _ m placed.marks last _ _ c.place_node-slot.result.0 c.args.form facts _ _ w st (c.place_node-slot.ensures.seen w (seen_index at _ _ m c.make_room.new.marks w same st.seen));
       number = next;
+      comes = record { slot = c.place_node-slot.result.0; free = ap number_of facts.added.was_free; here = ap number_of facts.added.placed; others = λ s d. ap number_of (facts.added.others s d) };
       next = next_last at new _ _ _ _ _ _ _ _ m placed.marks last _ _ c.place_node-slot.result.0 c.args.form facts;
       slots = slots_last at new _ _ _ _ _ _ _ _ m placed.marks last _ _ c.place_node-slot.result.0 c.args.form facts;
       root = ap (is_taken last) next ∙ root_last at new _ _ _ _ _ _ _ _ m placed.marks last _ _ c.place_node-slot.result.0 c.args.form facts;

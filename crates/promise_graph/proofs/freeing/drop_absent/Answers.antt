@@ -23,6 +23,7 @@ use Rattle.promise_graph.proofs.Renamed.{disarmed_by, left_all}
 use Rattle.promise_graph.proofs.Naming.{apart_events, kept_queue, absent_unarmed}
 use Rattle.promise_graph.proofs.Entries.{without_other, without_same, once_without}
 use Rattle.promise_graph.proofs.Places.{spots_absent}
+use Rattle.promise_graph.proofs.Frames.{goes_absent}
 use Rattle.promise_graph.proofs.freeing.drop_absent.Goals as goal
 
 other : (at : ℕ → Option Node) (n s : ℕ) (node : Node) → IsAbsent at n → at s ≡ Some node → node.number.0 ≢ n
@@ -83,3 +84,9 @@ returns-else-n-eq0-clause-stands g c w st =
     let m = c.args.g.now.marks in
     let q = g.Q.Queue.events c.args.g.now.queue in
     stands at q q _ m c.args.n w k.sound.numbered c.requires.absent (absent_unarmed at m.next c.args.n q c.requires.absent c.if-n-eq0.false k.sound.events.armed) st
+
+pub returns-then-n-eq0-clause-goes : goal.returns-then-n-eq0-clause-goes
+returns-then-n-eq0-clause-goes g c = goes_absent (g.St.Store.node_at c.args.g.now.store) c.args.n c.requires.absent
+
+pub returns-else-n-eq0-clause-goes : goal.returns-else-n-eq0-clause-goes
+returns-else-n-eq0-clause-goes g c = goes_absent (g.St.Store.node_at c.args.g.now.store) c.args.n c.requires.absent

@@ -17,6 +17,7 @@ use Rattle.promise_graph.proofs.Cutting.{alone_still}
 use Rattle.promise_graph.proofs.Falling.{falls}
 use Rattle.promise_graph.proofs.Gone.{other_number, not_slot, still, still_low, still_live, live_slot, numbers_gone, armable, queue_gone, nodes_gone, before}
 use Rattle.promise_graph.proofs.Members.{members_gone, members_without, gone_absent}
+use Rattle.promise_graph.proofs.Frames.{goes_slot}
 use Rattle.promise_graph.proofs.freeing.drop_slot.Goals as goal
 
 pub returns-clause-kept : goal.returns-clause-kept
@@ -126,3 +127,8 @@ returns-clause-falls g c =
       taker = λ x. x;
       ring = λ moved alone. moved (alone_still m.rings c.cut.new.rings slot m.slots s c.cut.ensures all.sound.paired low alone);
     })
+
+pub returns-clause-goes : goal.returns-clause-goes
+returns-clause-goes g c =
+    let at = g.St.Store.node_at c.args.g.now.store in
+    goes_slot at (g.St.Store.node_at c.free.new.self) c.args.g.now.marks c.args.slot.0 c.args.n c.requires.kept.sound.numbered c.requires.live (ap number_of c.free.ensures.freed) (λ s d. ap number_of (c.free.ensures.nodes s d))

@@ -69,6 +69,7 @@ returns g c =
             };
             owned = record { owner_is = st.owned.owner_is; below = st.owned.below };
           });
+      numbers = refl;
       unlisted = ap (is_listed_at at (record m { rings = r })) (slot_live at m k slot n live) ∙ no_ring (is_there (hub_of (at slot))) _ (equal_yes (next_at r slot) slot cut.alone);
       falls = falls at at m (record m { rings = r }) k (record { few = k.few; first = k.first; low = k.low; all = k.all; each = k.each; given = k.given; indexed = k.indexed; rising = k.rising; below = k.below; above = k.above; room = k.room }) refl refl (λ s j h. record {
         number = h;

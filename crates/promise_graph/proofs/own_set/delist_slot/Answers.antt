@@ -36,5 +36,6 @@ returns g c =
         };
         owned = record { owner_is = st.owned.owner_is; below = st.owned.below };
       };
+      numbers = refl;
       falls = record { taken = λ j t. t; listed = λ j t. t; plain = λ j t. t; next_is = refl; slots_are = refl };
     }

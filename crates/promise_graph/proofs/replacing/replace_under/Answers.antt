@@ -39,4 +39,5 @@ returns g c =
       plain = subst (λ (x : Marks). OnlyRises (is_plain at m) (is_plain new x)) (sym f.same) falls.plain;
       next = ap (λ (x : Marks). x.next) f.same;
       slots = ap (λ (x : Marks). x.slots) f.same;
+      numbers = ap (λ (x : Marks). x.numbers.items) f.same;
     }
