@@ -23,7 +23,7 @@ use Rattle.promise_script.specs.declared.verbs.User.{User}
 use Rattle.promise_script.specs.declared.verbs.User.TheVariants.{Fulfil as FulfilWord, Reject as RejectWord, DropCell as DropCellWord, Detach as DetachWord, Set as SetWord, Clear as ClearWord, Canceler as CancelerWord, Cancel as CancelWord, Drop as DropWord}
 use Rattle.promise_script.specs.declared.verbs.Verb.{Verb}
 use Rattle.promise_script.specs.declared.verbs.Verb.TheVariants.{Make, Combine, Use, Limits as LimitsWord, Turn as TurnWord, Run as RunWord, Step as StepWord, Value as ValueWord, Throw as ThrowWord, Promise as PromiseWord, Input as InputWord}
-use Rattle.promise_script.specs.ScriptText.{name_word, exception_words, command_words, meaning_words, NameFits, WordsFit, NamesFit, CommandFits, LimitsFit, MeaningFits, words_of, is_remark, Spells, Means}
+use Rattle.promise_script.specs.ScriptText.{name_word, exception_words, command_words, meaning_words, NameFits, StepFits, WordsFit, NamesFit, CommandFits, LimitsFit, MeaningFits, words_of, is_remark, Spells, Means}
 use Rattle.promise_script.specs.Decode.{given, both, or_else, and_then, number_read, to_step, words_read, names_read, exception_read, one_name, two_names, one_step, two_steps, name_and, maker_read, combiner_read, user_read, other_read, verb_read, made_by, combined_by, used_by, limits_fit, limits_of, limits_read, one_number, turns_read, bare, meaning_read, words_meaning, text_read}
 use Rattle.promise_script.proofs.Numbers.{read_is, read_sound}
 use Rattle.promise_script.proofs.Shapes.{Sound, Complete, given_some, both_some, both_are, first_sound, words_sound, words_complete, names_sound, names_complete, one_name_sound, name_complete, TwoNamesFit, two_names_words, two_names_sound, two_names_complete, one_step_words, one_step_sound, one_step_complete, TwoStepsFit, two_steps_words, two_steps_sound, two_steps_complete, CodeFits, exception_sound, exception_complete, NameAndFits, name_and_words, name_and_sound, name_and_complete}
@@ -415,6 +415,12 @@ command_letter (Fulfil n v) = lit< tt
 command_letter (Reject n x) = lit< tt
 command_letter (DropCell n) = lit< tt
 command_letter (Detach n) = lit< tt
+command_letter (NewSet n s) = lit< tt
+command_letter (OnEmpty n s) = lit< tt
+command_letter (Clear n) = lit< tt
+command_letter (NewCanceler n) = lit< tt
+command_letter (Cancel n) = lit< tt
+command_letter (Drop n) = lit< tt
 
 -- a line begins with a letter
 letter_first : (m : Meaning) → IsSaid m → 96 < first_octet (meaning_words m)

@@ -161,15 +161,15 @@ fn reads_what_is_cut(rt: HostRuntime) -> Result<(), Fail> {
 
 #[test]
 fn reads_words_that_are_cut(rt: HostRuntime) -> Result<(), Fail> {
-    let text = b"turn\ncanceler 1\n".as_slice();
+    let text = b"turn\ncanceler 1\nreply 1\n".as_slice();
     for (cuts, refused) in [
         ((0, 0), None),
         ((1, 3), bad(1)),
         ((4, 5), None),
-        ((6, 10), bad(2)),
-        ((11, 11), not_built(2)),
-        ((12, 12), bad(2)),
-        ((13, 16), not_built(2)),
+        ((6, 14), bad(2)),
+        ((15, 16), None),
+        ((17, 20), bad(3)),
+        ((21, 24), not_built(3)),
     ] {
         assert!(rt; cuts_have(rt.alloc(), text, cuts, refused));
     }
