@@ -1,8 +1,9 @@
 -- What steps tell of what they were told.
 use Rattle.std.specs.Prelude.{◌≡◌, ◌≤◌, ◌+◌, ℕ, List, Option, None, length}
 use Rattle.kj_base.specs.Record.{Item, Tells}
+use Rattle.kj_model.specs.Changes.{frees_in}
 
--- the items that steps were told, where they keep them all, and a number: they were told at least so many
+-- the items that steps were told, where they keep them all, and a number: they were told at least so many frees
 pub record Telling : Type 0 where
   pub items : Option (List Item)
   pub least : ℕ
@@ -15,7 +16,7 @@ telling items = record { items = items; least = 0 }
 abbrev pub untold : Telling
 untold = telling None
 
--- these items came at the end, and they are what may have raised the number
+-- these items came at the end, and only their frees raised the number
 pub record Hears (before : Telling) (items : List Item) (after : Telling) : Type 0 where
   pub told : Tells before.items items after.items
-  pub least : after.least ≤ before.least + length items
+  pub least : after.least ≤ before.least + length (frees_in items)

@@ -29,7 +29,7 @@ told_more old new item begun grown = record {
   told =
       subst (λ (l : List Body). Tells (told_by old).items (item ∷ []) (told_if new.whole (since l (items_of new)))) (sym begun)
       (told_grows old.whole new.whole (begun_of old) (items_of old) (items_of new) item grown);
-  least = zero-le 1;
+  least = zero-le;
 }
 
 pub kept_run : (old new : Kept) (n step : ℕ) (input : Outcome) (action : Action) → IsKept old → bodies_in new ≡ bodies_in old → InOrder (bodies_in old) new.order.items

@@ -1,7 +1,8 @@
 -- One change after another.
-use Rattle.std.proofs.Common.{◌≡◌, ◌+◌, ℕ, List, [], ◌++◌, Option, None, Some, Bool, refl, sym, ap, ◌∙◌, append_assoc, length-append, arith}
+use Rattle.std.proofs.Common.{◌≡◌, ◌+◌, ℕ, List, [], ◌∷◌, ◌++◌, Option, None, Some, Bool, refl, sym, ap, ◌∙◌, append_assoc, length, length-append, arith}
 use Rattle.kj_model.specs.World.{World, State}
-use Rattle.kj_base.specs.Record.{Item, Tells}
+use Rattle.kj_model.specs.Changes.{frees_in}
+use Rattle.kj_base.specs.Record.{Item, Run, Free, Tells}
 use Rattle.promise_commands.specs.Telling.{Telling, Hears}
 use Rattle.std.proofs.lemmas.List.{append-nil}
 use Rattle.promise_nodes.specs.Kept.{OnlyFalls, OnlyRises}
@@ -38,11 +39,16 @@ no_items : (a : Option (List Item)) → Tells a [] a
 no_items None = tt
 no_items (Some l) = (l, refl, sym (append-nil l))
 
+frees_append : (xs ys : List Item) → frees_in (xs ++ ys) ≡ frees_in xs ++ frees_in ys
+frees_append [] ys = refl
+frees_append (Free n ∷ xs) ys = ap (λ (ns : List ℕ). n ∷ ns) (frees_append xs ys)
+frees_append (Run n step input action ∷ xs) ys = frees_append xs ys
+
 -- what steps hear, one list after another
 pub hears_then : (a b c : Telling) (xs ys : List Item) → Hears a xs b → Hears b ys c → Hears a (xs ++ ys) c
 hears_then a b c xs ys h k = record {
   told = items_then a.items b.items c.items xs ys h.told k.told;
-  least = let both = length-append xs ys in omega (arith, h.least, k.least, both);
+  least = let both = ap length (frees_append xs ys) ∙ length-append (frees_in xs) (frees_in ys) in omega (arith, h.least, k.least, both);
 }
 
 -- they hear nothing
