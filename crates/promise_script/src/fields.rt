@@ -45,19 +45,13 @@ pub fn read_step(word: &[u8]) -> Option<Option<StepId>>
 pub fn read_kind(word: &[u8]) -> Option<Kind>
     ensures { result ≡ kind_read word.now }
 {
-    if word == b"failed".as_slice() {
-        return Some(Kind::Failed);
+    match word {
+        b"failed" => Some(Kind::Failed),
+        b"overloaded" => Some(Kind::Overloaded),
+        b"disconnected" => Some(Kind::Disconnected),
+        b"unimplemented" => Some(Kind::Unimplemented),
+        _ => None,
     }
-    if word == b"overloaded".as_slice() {
-        return Some(Kind::Overloaded);
-    }
-    if word == b"disconnected".as_slice() {
-        return Some(Kind::Disconnected);
-    }
-    if word == b"unimplemented".as_slice() {
-        return Some(Kind::Unimplemented);
-    }
-    None
 }
 
 /// The words of a value.

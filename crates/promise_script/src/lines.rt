@@ -1,5 +1,5 @@
 //! What a line means, from its octets.
-ghost use Rattle.std.specs.Prelude.{◌≡◌, ◌==◌, IfOk, IfSome, OnOk, map, None};
+ghost use Rattle.std.specs.Prelude.{◌≡◌, ◌==◌, ◌<◌, ◌↔◌, IsTrue, IfOk, IfSome, OnOk, map, None};
 ghost use Rattle.promise_script.specs.declared.meaning.Meaning.{Meaning};
 ghost use Rattle.promise_script.specs.ScriptText.{Means, words_of};
 ghost use Rattle.std.specs.List.{count_by};
@@ -125,6 +125,14 @@ fn put_words<'a>(words: &mut Vec<&'a [u8]>, text: &'a [u8]) -> Result<(), AllocE
     words.extend(text.split(|octet| *octet == b' '))
 }
 
+// Whether a line has more spaces than one that means something. They are counted only where it has
+// so many octets.
+fn has_many_spaces(text: &[u8]) -> bool
+    ensures { IsTrue result ↔ (MOST_SPACES < count_by (λ c. c == 32) text.now) }
+{
+    text.len() > MOST_SPACES && space_count(text) > MOST_SPACES
+}
+
 /// What `read_line` gives, as the reader's own definition says it. The words of the line take the place
 /// of those of the line before, so that one line after another takes no memory anew.
 pub fn find_meaning<'a>(
@@ -139,7 +147,7 @@ pub fn find_meaning<'a>(
     if text[0] == b'#' {
         return Ok(Some(Meaning::Nothing));
     }
-    if space_count(text) > MOST_SPACES {
+    if has_many_spaces(text) {
         return Ok(None);
     }
     put_words(words, text)?;

@@ -59,88 +59,48 @@ pub enum Verb {
 pub fn read_maker(word: &[u8]) -> Option<Maker>
     ensures { result ≡ maker_read word.now }
 {
-    if word == b"now".as_slice() {
-        return Some(Maker::Now);
+    match word {
+        b"now" => Some(Maker::Now),
+        b"fail" => Some(Maker::Fail),
+        b"later" => Some(Maker::Later),
+        b"last" => Some(Maker::Last),
+        b"pair" => Some(Maker::Pair),
+        b"empty" => Some(Maker::Empty),
+        _ => None,
     }
-    if word == b"fail".as_slice() {
-        return Some(Maker::Fail);
-    }
-    if word == b"later".as_slice() {
-        return Some(Maker::Later);
-    }
-    if word == b"last".as_slice() {
-        return Some(Maker::Last);
-    }
-    if word == b"pair".as_slice() {
-        return Some(Maker::Pair);
-    }
-    if word == b"empty".as_slice() {
-        return Some(Maker::Empty);
-    }
-    None
 }
 
 pub fn read_combiner(word: &[u8]) -> Option<Combiner>
     ensures { result ≡ combiner_read word.now }
 {
-    if word == b"then".as_slice() {
-        return Some(Combiner::Then);
+    match word {
+        b"then" => Some(Combiner::Then),
+        b"chain" => Some(Combiner::Chain),
+        b"eager" => Some(Combiner::Eager),
+        b"fork" => Some(Combiner::Fork),
+        b"branch" => Some(Combiner::Branch),
+        b"race" => Some(Combiner::Race),
+        b"all" => Some(Combiner::All),
+        b"fast" => Some(Combiner::Fast),
+        _ => None,
     }
-    if word == b"chain".as_slice() {
-        return Some(Combiner::Chain);
-    }
-    if word == b"eager".as_slice() {
-        return Some(Combiner::Eager);
-    }
-    if word == b"fork".as_slice() {
-        return Some(Combiner::Fork);
-    }
-    if word == b"branch".as_slice() {
-        return Some(Combiner::Branch);
-    }
-    if word == b"race".as_slice() {
-        return Some(Combiner::Race);
-    }
-    if word == b"all".as_slice() {
-        return Some(Combiner::All);
-    }
-    if word == b"fast".as_slice() {
-        return Some(Combiner::Fast);
-    }
-    None
 }
 
 pub fn read_user(word: &[u8]) -> Option<User>
     ensures { result ≡ user_read word.now }
 {
-    if word == b"fulfil".as_slice() {
-        return Some(User::Fulfil);
+    match word {
+        b"fulfil" => Some(User::Fulfil),
+        b"reject" => Some(User::Reject),
+        b"dropcell" => Some(User::DropCell),
+        b"detach" => Some(User::Detach),
+        b"set" => Some(User::Set),
+        b"clear" => Some(User::Clear),
+        b"canceler" => Some(User::Canceler),
+        b"cancel" => Some(User::Cancel),
+        b"drop" => Some(User::Drop),
+        _ => None,
     }
-    if word == b"reject".as_slice() {
-        return Some(User::Reject);
-    }
-    if word == b"dropcell".as_slice() {
-        return Some(User::DropCell);
-    }
-    if word == b"detach".as_slice() {
-        return Some(User::Detach);
-    }
-    if word == b"set".as_slice() {
-        return Some(User::Set);
-    }
-    if word == b"clear".as_slice() {
-        return Some(User::Clear);
-    }
-    if word == b"canceler".as_slice() {
-        return Some(User::Canceler);
-    }
-    if word == b"cancel".as_slice() {
-        return Some(User::Cancel);
-    }
-    if word == b"drop".as_slice() {
-        return Some(User::Drop);
-    }
-    None
 }
 
 pub fn read_verb(word: &[u8]) -> Option<Verb>
@@ -162,29 +122,15 @@ pub fn read_verb(word: &[u8]) -> Option<Verb>
 fn read_other(word: &[u8]) -> Option<Verb>
     ensures { result ≡ other_read word.now }
 {
-    if word == b"limits".as_slice() {
-        return Some(Verb::Limits);
+    match word {
+        b"limits" => Some(Verb::Limits),
+        b"turn" => Some(Verb::Turn),
+        b"run" => Some(Verb::Run),
+        b"step" => Some(Verb::Step),
+        b"value" => Some(Verb::Value),
+        b"throw" => Some(Verb::Throw),
+        b"promise" => Some(Verb::Promise),
+        b"input" => Some(Verb::Input),
+        _ => None,
     }
-    if word == b"turn".as_slice() {
-        return Some(Verb::Turn);
-    }
-    if word == b"run".as_slice() {
-        return Some(Verb::Run);
-    }
-    if word == b"step".as_slice() {
-        return Some(Verb::Step);
-    }
-    if word == b"value".as_slice() {
-        return Some(Verb::Value);
-    }
-    if word == b"throw".as_slice() {
-        return Some(Verb::Throw);
-    }
-    if word == b"promise".as_slice() {
-        return Some(Verb::Promise);
-    }
-    if word == b"input".as_slice() {
-        return Some(Verb::Input);
-    }
-    None
 }

@@ -52,7 +52,7 @@ pub(crate) fn begin<'a>(alloc: Global, script: &'a Script<'a>) -> Result<Kept<'a
 // No commands, and the input; never an `Err`. An action is large, so it is written once, where it is
 // given.
 #[inline(never)]
-fn pass() -> Result<Action, NoMemory>
+pub(crate) fn pass() -> Result<Action, NoMemory>
     ensures given { IfOk result (λ action. action_of action ≡ passing_action) }
     ensures ok { IsOk result }
 {
@@ -83,7 +83,7 @@ fn silence(kept: &mut Kept)
 }
 
 // The next body of the step, which is kept in what is told.
-fn tell_run(kept: &mut Kept, node: NodeId, step: StepId, input: &Outcome) -> Option<u32>
+pub(crate) fn tell_run(kept: &mut Kept, node: NodeId, step: StepId, input: &Outcome) -> Option<u32>
     requires { IsKept kept.old }
     ensures kept { IsKept kept.new }
     ensures script { kept.new.script ≡ kept.old.script }
@@ -106,7 +106,7 @@ fn tell_run(kept: &mut Kept, node: NodeId, step: StepId, input: &Outcome) -> Opt
 
 // The action of a body, never an `Err`; silent from then on where there is no memory to read it.
 #[inline(never)]
-fn read_body(kept: &mut Kept, which: u32) -> Result<Action, NoMemory>
+pub(crate) fn read_body(kept: &mut Kept, which: u32) -> Result<Action, NoMemory>
     requires { IsKept kept.old }
     ensures kept { IsKept kept.new }
     ensures read { IfOk result (λ action. IsRead (told_by kept.old) (told_by kept.new)
@@ -119,26 +119,6 @@ fn read_body(kept: &mut Kept, which: u32) -> Result<Action, NoMemory>
     }
     silence(kept);
     pass()
-}
-
-/// The action of the next run of the step; silent from then on where there is no memory to read it.
-/// Never an `Err`.
-pub(crate) fn run(
-    kept: &mut Kept,
-    node: NodeId,
-    step: StepId,
-    input: &Outcome,
-) -> Result<Action, NoMemory>
-    requires { IsKept kept.old }
-    ensures kept { IsKept kept.new }
-    ensures told { IfOk result (λ action. Hears (told_by kept.old)
-        (Run node.0 step.0 input.now (action_of action) ∷ []) (told_by kept.new)) }
-    ensures ok { IsOk result }
-{
-    let Some(which) = tell_run(kept, node, step, input) else {
-        return pass();
-    };
-    read_body(kept, which)
 }
 
 pub(crate) fn freed(kept: &mut Kept, node: NodeId)

@@ -4,7 +4,7 @@ ghost use Rattle.promise_commands.specs.Scripts.{body_of};
 ghost use Rattle.promise_steps.specs.Following.{Follows, Prints};
 ghost use Rattle.promise_steps.specs.Kept.{told_by};
 
-use crate::kept::{Kept, begin, drain_into, freed, run};
+use crate::kept::{Kept, begin, drain_into, freed, pass, read_body, tell_run};
 use kj_base::{Bytes, NoMemory, NodeId, Outcome, StepId};
 use promise_commands::{Action, Steps};
 use promise_script::Script;
@@ -57,9 +57,13 @@ impl<'a> Steps for ScriptSteps<'a> {
     // No run finds a lack of memory: where there is none to tell of it or to read its body, the steps fall silent.
     ghost lacks = { λ _. 0 };
 
+    // No function of its own stands between this and what it calls, since each would copy the action.
     #[inline(never)]
     fn run(&mut self, node: NodeId, step: StepId, input: &Outcome) -> Result<Action, NoMemory> {
-        run(&mut self.kept, node, step, input)
+        let Some(which) = tell_run(&mut self.kept, node, step, input) else {
+            return pass();
+        };
+        read_body(&mut self.kept, which)
     }
 
     fn freed(&mut self, node: NodeId) {
