@@ -1,0 +1,4 @@
+pub mod Laid
+pub mod Built
+pub mod Moves
+pub mod Freed
