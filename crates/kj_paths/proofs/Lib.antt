@@ -5,3 +5,5 @@ pub mod Freed
 pub mod Builders
 pub mod Effects
 pub mod Commands
+pub mod Values
+pub mod Replaced
