@@ -7,3 +7,4 @@ pub mod Effects
 pub mod Commands
 pub mod Values
 pub mod Replaced
+pub mod Fires
