@@ -33,7 +33,7 @@ use Rattle.kj_paths.proofs.Values.{given_loose, none_loose, freed_laid, step_lai
 use Rattle.kj_paths.proofs.Replaced.{gone_laid, chain_goes}
 
 -- a Chain
-chain_laid : (n link : ℕ) (o : Option Given) (s : State) → Laid (given_loose o) s.world → Laid [] (chain_ended n link o s).world
+pub chain_laid : (n link : ℕ) (o : Option Given) (s : State) → Laid (given_loose o) s.world → Laid [] (chain_ended n link o s).world
 chain_laid n link None s g = g
 chain_laid n link (Some (Gave o)) s g =
     let u = freed link s in
@@ -72,7 +72,7 @@ kept_then_laid : (after : World → World) (n t : ℕ) (o : Option Outcome) (s :
 kept_then_laid after n t None s h g = g
 kept_then_laid after n t (Some o) s h g = let u = freed t s in h (keeps n o u.world) (kept_laid n o (form_at n u.world.nodes) u.world refl (freed_laid t [] s g))
 
-kept_from_laid : (setting : Setting) (after : World → World) (n : ℕ) (content : Content) (s : State) → AfterLaid after → Laid [] s.world → Laid [] (kept_from setting after n content s).world
+pub kept_from_laid : (setting : Setting) (after : World → World) (n : ℕ) (content : Content) (s : State) → AfterLaid after → Laid [] s.world → Laid [] (kept_from setting after n content s).world
 kept_from_laid setting after n (Tree t) s h g = let r = value setting t s in kept_then_laid after n t r.1 r.0 h (value_laid setting t s g)
 kept_from_laid setting after n (Kept o) s h g = g
 
@@ -80,7 +80,7 @@ each_announced_laid : (ns : List ℕ) → AfterLaid (each_announced ns)
 each_announced_laid [] w g = g
 each_announced_laid (n ∷ ns) w g = each_announced_laid ns (announced DepthFirst n w) (announced_laid DepthFirst n [] w g)
 
-branches_laid : (hub : ℕ) → AfterLaid (branches_announced hub)
+pub branches_laid : (hub : ℕ) → AfterLaid (branches_announced hub)
 branches_laid hub w g = each_announced_laid (branches_of (form_at hub w.nodes)) w g
 
 -- a Side
@@ -133,7 +133,7 @@ by_laid : (setting : Setting) (o : Option Entry) (side t : ℕ) (s : State) → 
 by_laid setting None side t s st e bt g = g
 by_laid setting (Some owner) side t s st e bt g = under_laid setting owner.number owner.form side t s (owner_is side owner s st.recorded e).0 bt g
 
-side_laid : (setting : Setting) (n : ℕ) (stage : Stage) (s : State) → Owned s → form_at n s.world.nodes ≡ Some (Side stage) → Laid [] s.world → Laid [] (side_fired setting n stage s).world
+pub side_laid : (setting : Setting) (n : ℕ) (stage : Stage) (s : State) → Owned s → form_at n s.world.nodes ≡ Some (Side stage) → Laid [] s.world → Laid [] (side_fired setting n stage s).world
 side_laid setting n (Waits t) s st at g = by_laid setting (owner_of n s.world.nodes) n t s st refl at g
 side_laid setting n (Fired t) s st at g = g
 side_laid setting n (Keeps o) s st at g = g
@@ -161,7 +161,7 @@ moved_times m n xs h = decide (nat_eq m n) refl
         let c : times m (dropped n xs) ≡ times m xs = dropped_times n m xs ∙ ap (λ q. cond (not q) (times m xs) 0) e in
         omega (arith, a, c)
 
-dropped_less : (m n : ℕ) (xs : List ℕ) → times m (dropped n xs) ≤ times m xs
+pub dropped_less : (m n : ℕ) (xs : List ℕ) → times m (dropped n xs) ≤ times m xs
 dropped_less m n xs = decide (nat_eq m n) refl
   where
     decide : (b : Bool) → nat_eq m n ≡ b → times m (dropped n xs) ≤ times m xs

@@ -8,3 +8,4 @@ pub mod Commands
 pub mod Values
 pub mod Replaced
 pub mod Fires
+pub mod Turns
