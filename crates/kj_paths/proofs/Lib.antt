@@ -9,3 +9,5 @@ pub mod Values
 pub mod Replaced
 pub mod Fires
 pub mod Turns
+pub mod Calls
+pub mod Paths
