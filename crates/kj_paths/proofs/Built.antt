@@ -68,9 +68,6 @@ spot_app_other m x (y ∷ ys) d = more (spot_app_other m x ys d)
     more : spot_of m (ys ++ x ∷ []) ≡ spot_of m ys → spot_of m ((y ∷ ys) ++ x ∷ []) ≡ spot_of m (y ∷ ys)
     more h = grind (arith, nat_tests)
 
-none_some : (x : Spot) → ◌≡◌ {A = Option Spot} None (Some x) → ⊥
-none_some x e = cc
-
 some_same : (x y : Spot) → ◌≡◌ {A = Option Spot} (Some x) (Some y) → x ≡ y
 some_same x y e = cc
 

@@ -127,7 +127,7 @@ pub canceled_laid : (guard : Guard) (canceler : ℕ) (s : State) → Laid [] s.w
 canceled_laid guard canceler s g = wraps_laid guard (reverse (wraps_of (held_at canceler s.world.names))) s g
 
 -- hubs
-some_form : (x y : Form) → ◌≡◌ {A = Option Form} (Some x) (Some y) → x ≡ y
+pub some_form : (x y : Form) → ◌≡◌ {A = Option Form} (Some x) (Some y) → x ≡ y
 some_form x y e = cc
 
 hub_lessens : (content : Content) (a b : Bool) (xs ys : List ℕ) → Lessens (Hub content a xs) (Hub content b ys)

@@ -28,7 +28,7 @@ use Rattle.kj_ownership.proofs.Sides.{owner_is}
 use Rattle.kj_ownership.proofs.Tasks.{dropped_times, found_name, HasLeft, left_world}
 use Rattle.kj_paths.proofs.Laid.{Laid, laid_fewer, laid_roots}
 use Rattle.kj_paths.proofs.Moves.{announced_laid, listened_laid, named_laid, renamed_laid, others_laid, Lessens, put_laid, bare_laid}
-use Rattle.kj_paths.proofs.Effects.{lists_laid, empty_now_laid}
+use Rattle.kj_paths.proofs.Effects.{some_form, lists_laid, empty_now_laid}
 use Rattle.kj_paths.proofs.Values.{given_loose, none_loose, freed_laid, step_laid, value_laid, link_laid}
 use Rattle.kj_paths.proofs.Replaced.{gone_laid, chain_goes}
 
@@ -60,9 +60,6 @@ kept_lessens o (Join fast sides) = same_lessens (Join fast sides)
 kept_lessens o (Task tree) = same_lessens (Task tree)
 kept_lessens o (Request name tree) = same_lessens (Request name tree)
 kept_lessens o _ = record { parts = λ p i. i; hub = omega arith }
-
-some_form : (x y : Form) → ◌≡◌ {A = Option Form} (Some x) (Some y) → x ≡ y
-some_form x y e = cc
 
 kept_laid : (n : ℕ) (o : Outcome) (f : Option Form) (w : World) → form_at n w.nodes ≡ f → Laid [] w → Laid [] (kept_at n o f w)
 kept_laid n o None w at g = g

@@ -14,12 +14,9 @@ use Rattle.kj_model.proofs.Falling.{node_frees}
 use Rattle.kj_ownership.specs.Owners.{is_live, owns, is_hub_form}
 use Rattle.kj_ownership.specs.Standing.{one_if}
 use Rattle.kj_ownership.proofs.Stays.{hub_stays, live_before, owns_before, roots_stay}
-use Rattle.kj_paths.proofs.Laid.{Laid, Shrinks, laid_shrinks, spot_left}
+use Rattle.kj_paths.proofs.Laid.{Laid, Shrinks, laid_shrinks, spot_left, no_spot}
 
 -- spots over a free
-none_spot : (x : Spot) → ◌≡◌ {A = Option Spot} None (Some x) → ⊥
-none_spot x e = cc
-
 spot_kept : (ns : List ℕ) (s t : State) (m : ℕ) → FreedBy ns s t → is_in m ns ≡ false → spot_of m t.world.spots ≡ spot_of m s.world.spots
 spot_kept ns s t m f o = ap (spot_of m) f.frame.spots ∙ spot_left m (λ n. not (is_in n ns)) s.world.spots ∙ ap (λ b. cond (not b) (spot_of m s.world.spots) None) o
 
@@ -27,7 +24,7 @@ spot_before : (ns : List ℕ) (s t : State) (m : ℕ) (x : Spot) → FreedBy ns 
 spot_before ns s t m x f at = back (is_in m ns) refl
   where
     back : (b : Bool) → is_in m ns ≡ b → spot_of m s.world.spots ≡ Some x
-    back true e = absurd (none_spot x (sym (ap (spot_of m) f.frame.spots ∙ spot_left m (λ n. not (is_in n ns)) s.world.spots ∙ ap (λ b. cond (not b) (spot_of m s.world.spots) None) e) ∙ at))
+    back true e = absurd (no_spot x (sym (ap (spot_of m) f.frame.spots ∙ spot_left m (λ n. not (is_in n ns)) s.world.spots ∙ ap (λ b. cond (not b) (spot_of m s.world.spots) None) e) ∙ at))
     back false e = sym (spot_kept ns s t m f e) ∙ at
 
 -- hubs

@@ -83,6 +83,10 @@ laid_roots l1 l2 w v nodes spots next key names roots = laid_shrinks l1 l2 w v (
 pub laid_fewer : (l1 l2 : List ℕ) (w : World) → ((m : ℕ) → times m l2 ≤ times m l1) → Laid l1 w → Laid l2 w
 laid_fewer l1 l2 w h = laid_roots l1 l2 w w refl refl refl refl (λ a. a) (λ a m. let k = h m in omega (arith, k))
 
+-- nothing is something
+pub no_spot : (x : Spot) → ◌≡◌ {A = Option Spot} None (Some x) → ⊥
+no_spot x e = cc
+
 -- the spots of nodes that are left
 left_more : (m : ℕ) (p : ℕ → Bool) (x : Spot) (xs : List Spot) → spot_of m (filter (λ (y : Spot). p y.number) xs) ≡ cond (p m) (spot_of m xs) None → spot_of m (filter (λ (y : Spot). p y.number) (x ∷ xs)) ≡ cond (p m) (spot_of m (x ∷ xs)) None
 left_more m p x xs h = grind (arith, nat_tests)
@@ -96,9 +100,6 @@ spot_left m p [] = sym (none_either (p m))
 spot_left m p (x ∷ xs) = left_more m p x xs (spot_left m p xs)
 
 -- a new world
-no_spot : {A : Type 0} (x : A) → ◌≡◌ {A = Option A} None (Some x) → ⊥
-no_spot x e = cc
-
 pub new_laid : (limits : Limits) → Laid [] (new_world limits)
 new_laid limits = record {
   names = λ c. omega arith;

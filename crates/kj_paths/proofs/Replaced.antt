@@ -20,12 +20,9 @@ use Rattle.kj_ownership.specs.Standing.{one_if}
 use Rattle.kj_ownership.proofs.Stays.{in_times, roots_app}
 use Rattle.kj_ownership.proofs.Reached.{QueueOnly, listened_only}
 use Rattle.kj_ownership.proofs.Replaced.{some_renamed, form_renamed, live_renamed}
-use Rattle.kj_paths.proofs.Laid.{stands, Laid, IsBefore, laid_shrinks, laid_roots, spot_left}
+use Rattle.kj_paths.proofs.Laid.{stands, Laid, IsBefore, laid_shrinks, laid_roots, spot_left, no_spot}
 
 -- a node goes
-none_spot : (x : Spot) → ◌≡◌ {A = Option Spot} None (Some x) → ⊥
-none_spot x e = cc
-
 swap : (m n : ℕ) → nat_eq n m ≡ false → nat_eq m n ≡ false
 swap m n h = grind (arith, nat_tests)
 
@@ -42,7 +39,7 @@ gone_before : (n m : ℕ) (x : Spot) (w : World) → spot_of m (gone_world n w).
 gone_before n m x w at = decide (nat_eq n m) refl
   where
     decide : (b : Bool) → nat_eq n m ≡ b → (nat_eq n m ≡ false) × (spot_of m w.spots ≡ Some x)
-    decide true e = absurd (none_spot x (sym (gone_spot_none n m w e) ∙ at))
+    decide true e = absurd (no_spot x (sym (gone_spot_none n m w e) ∙ at))
     decide false e = (e, sym (gone_spot n m w e) ∙ at)
 
 gone_none : (n m : ℕ) (w : World) → nat_eq n m ≡ true → form_at m (gone_world n w).nodes ≡ None

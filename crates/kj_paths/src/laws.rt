@@ -1,9 +1,32 @@
 //! Laws of paths.
-ghost use Rattle.kj_paths.specs.Paths.{Paths};
 ghost use Rattle.kj_base.specs.declared.numbers.Limits.{Limits};
-ghost use Rattle.kj_model.specs.World.{new_world};
+ghost use Rattle.kj_model.specs.Calls.{Call, calls, close};
+ghost use Rattle.kj_model.specs.World.{Setting, World, new_state};
+ghost use Rattle.kj_ownership.specs.Fits.{Fits};
+ghost use Rattle.kj_paths.specs.Paths.{AreOpen, LivesIn, Paths, is_used};
+ghost use Rattle.std.specs.Prelude.{false, true, ℕ, List, ◌≡◌};
 
-/// No node is live in a new loop.
-pub fn new_loops_have_paths()
-    ensures { (limits : Limits) → Paths (new_world limits) }
+/// After each list of calls from a new loop, and once the loop is closed after it, each live node
+/// has its arena and place, and the live nodes of each arena are one path, each but the first owned
+/// by the one before it. What is asked: the store takes no more nodes than it has slots, and a
+/// taking call frees the name of an ended request or of an ask's cell.
+pub fn calls_keep_paths()
+    ensures between { (setting : Setting) (limits : Limits) (cs : List Call)
+        → Fits setting → AreOpen setting cs (new_state limits)
+        → Paths (calls setting cs (new_state limits)).0.world }
+    ensures closed { (setting : Setting) (limits : Limits) (cs : List Call)
+        → Fits setting → AreOpen setting cs (new_state limits)
+        → Paths (close (calls setting cs (new_state limits)).0).world }
+{}
+
+/// An arena is in use exactly where a live node has its place there, so it is free exactly where
+/// none lives. The arena of the next node that is placed anew is free, and after the closing all
+/// are.
+pub fn free_arenas_have_no_live_node()
+    ensures used { (w : World) (key : ℕ) → Paths w → is_used key w.spots ≡ true → LivesIn key w }
+    ensures lives { (w : World) (key : ℕ) → LivesIn key w → is_used key w.spots ≡ true }
+    ensures next { (w : World) → Paths w → is_used w.next_key w.spots ≡ false }
+    ensures closed { (setting : Setting) (limits : Limits) (cs : List Call)
+        → Fits setting → AreOpen setting cs (new_state limits) → (key : ℕ)
+        → is_used key (close (calls setting cs (new_state limits)).0).world.spots ≡ false }
 {}
