@@ -11,3 +11,4 @@ pub mod Fires
 pub mod Turns
 pub mod Calls
 pub mod Paths
+pub mod Worked

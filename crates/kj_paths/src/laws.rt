@@ -4,7 +4,8 @@ ghost use Rattle.kj_model.specs.Calls.{Call, calls, close};
 ghost use Rattle.kj_model.specs.World.{Setting, World, new_state};
 ghost use Rattle.kj_ownership.specs.Fits.{Fits};
 ghost use Rattle.kj_paths.specs.Paths.{AreOpen, LivesIn, Paths, is_used};
-ghost use Rattle.std.specs.Prelude.{false, true, ℕ, List, ◌≡◌};
+ghost use Rattle.kj_paths.specs.Worked.{worked_builds, worked_limits, worked_path, worked_paths, worked_setting, worked_turn};
+ghost use Rattle.std.specs.Prelude.{false, true, ℕ, List, ◌++◌, ◌≡◌};
 
 /// After each list of calls from a new loop, and once the loop is closed after it, each live node
 /// has its arena and place, and the live nodes of each arena are one path, each but the first owned
@@ -29,4 +30,15 @@ pub fn free_arenas_have_no_live_node()
     ensures closed { (setting : Setting) (limits : Limits) (cs : List Call)
         → Fits setting → AreOpen setting cs (new_state limits) → (key : ℕ)
         → is_used key (close (calls setting cs (new_state limits)).0).world.spots ≡ false }
+{}
+
+/// What is asked of calls can be met, with takings among them. In a worked case a promise of two
+/// nodes in an arena of its own takes the place of a Chain in the middle of a path of six.
+pub fn a_promise_comes_with_its_path()
+    ensures fits { Fits worked_setting }
+    ensures asked { AreOpen worked_setting (worked_builds ++ worked_turn) (new_state worked_limits) }
+    ensures before { (calls worked_setting worked_builds (new_state worked_limits)).0.world.spots
+        ≡ worked_path }
+    ensures after { (calls worked_setting (worked_builds ++ worked_turn)
+        (new_state worked_limits)).0.world.spots ≡ worked_paths }
 {}
