@@ -1,13 +1,13 @@
 -- Nodes over the trees of sources.
-use Rattle.std.proofs.Common.{◌≡◌, inl, inr, ℕ, ◌+◌, ◌≤◌, List, [], ◌∷◌, ◌++◌, Bool, true, false, Option, None, Some, arith, refl, sym, ap, ◌∙◌, subst}
-use Rattle.std.specs.Prelude.{nat_eq, map}
+use Rattle.std.proofs.Common.{◌≡◌, ℕ, ◌+◌, ◌≤◌, List, [], ◌∷◌, ◌++◌, false, Option, None, Some, arith, refl, sym, ap, ◌∙◌, subst}
+use Rattle.std.specs.Prelude.{nat_eq}
 use Rattle.std.proofs.lemmas.Bool.{or_parts}
-use Rattle.kj_model.specs.Nodes.{Form, Tree, Waits, Side, Hub, Branch, Then, Chain, Request, Ready, form_at, parts_of, is_in}
-use Rattle.kj_model.specs.World.{World, Named, Held, Promise, HubOf, RequestOf, held_at}
-use Rattle.kj_model.specs.Changes.{named, unnamed, without_name}
+use Rattle.kj_model.specs.Nodes.{Form, Waits, Side, parts_of, is_in}
+use Rattle.kj_model.specs.World.{World, Named, Promise, held_at}
+use Rattle.kj_model.specs.Changes.{unnamed, without_name}
 use Rattle.kj_model.specs.Places.{built}
 use Rattle.kj_model.specs.Listening.{listened}
-use Rattle.kj_model.specs.Effects.{node_of, node_named, leaf_built, over_built, over_named, over_listening, sides_built, numbers_from, each_listened}
+use Rattle.kj_model.specs.Effects.{node_of, node_named, leaf_built, over_built, over_named, sides_built, numbers_from, each_listened}
 use Rattle.kj_model.specs.Framed.{times}
 use Rattle.kj_model.proofs.Freed.{swapped}
 use Rattle.kj_model.proofs.Members.{in_self}
@@ -15,7 +15,7 @@ use Rattle.kj_model.proofs.Counts.{times_app, held_without}
 use Rattle.kj_ownership.proofs.Moves.{built_grows, root_out}
 use Rattle.kj_ownership.proofs.Premises.{AreSources}
 use Rattle.kj_paths.proofs.Laid.{Laid, laid_fewer}
-use Rattle.kj_paths.proofs.Built.{GoesBefore, built_laid}
+use Rattle.kj_paths.proofs.Built.{built_laid}
 use Rattle.kj_paths.proofs.Moves.{named_laid, unnamed_laid, listened_laid}
 
 -- what a built node leaves

@@ -1,16 +1,14 @@
 -- A node is built.
-use Rattle.std.proofs.Common.{◌≡◌, ◌⊎◌, inl, inr, ℕ, ◌+◌, ◌-◌, ◌≤◌, ◌<◌, List, [], ◌∷◌, ◌++◌, Bool, true, false, cond, Option, None, Some, arith, refl, sym, ap, ◌∙◌, subst}
-use Rattle.std.specs.Prelude.{find, nat_eq, nat_lt, is_some}
-use Rattle.std.proofs.lemmas.Bool.{false≢true}
+use Rattle.std.proofs.Common.{◌≡◌, ◌⊎◌, inl, inr, ℕ, ◌+◌, ◌-◌, ◌≤◌, ◌<◌, List, [], ◌∷◌, ◌++◌, Bool, true, false, Option, None, Some, arith, refl, sym, ap, ◌∙◌, subst}
+use Rattle.std.specs.Prelude.{nat_eq, nat_lt, is_some}
 use Rattle.std.proofs.lemmas.Bool.Decides.{nat_tests}
 use Rattle.kj_base.specs.Places.{Spot, spot_of, spot_anew, spot_before}
-use Rattle.kj_model.specs.Nodes.{Entry, Form, Hub, form_at, parts_of, parts_found, is_in}
+use Rattle.kj_model.specs.Nodes.{Form, Hub, form_at, parts_of, parts_found, is_in}
 use Rattle.kj_model.specs.World.{World}
 use Rattle.kj_model.specs.Places.{built, numbered, placed_anew, placed_if, placed_over}
-use Rattle.kj_model.specs.Owned.{tree_roots}
 use Rattle.kj_model.specs.Framed.{times}
 use Rattle.kj_model.proofs.Spared.{same_number}
-use Rattle.kj_model.proofs.Once.{both_ways, false_by}
+use Rattle.kj_model.proofs.Once.{false_by}
 use Rattle.kj_model.proofs.Counts.{times_app}
 use Rattle.kj_ownership.specs.Owners.{is_live, owns, is_hub_form}
 use Rattle.kj_ownership.specs.Standing.{one_if}
@@ -165,13 +163,21 @@ module _ (form : Form) (rest : List ℕ) (x : Spot) (key : ℕ) (w : World) (g :
   behind : (n : ℕ) (z : Spot) → spot_of n w.spots ≡ Some z → z.key ≡ x.key → (t : ℕ) × (y : Spot) × (is_in t (parts_of form) ≡ true) × (spot_of t w.spots ≡ Some y) × (x.key ≡ y.key) × (x.place + 1 ≡ y.place) × ((y.place < z.place) ⊎ (t ≡ n))
   behind n z at k = elim fits [
     | inl a ↦ absurd (let b = g.key n z at in (let c = a.0 in none k b c))
-    | inr f ↦ (f.0, f.1, f.2, f.3, f.4, f.5, elim (lower f.1.place z.place) [
-      | inl p ↦ inl p
-      | inr r ↦ elim r [
-        | inl e ↦ inr (g.alone f.0 n f.1 z f.3 at (sym f.4 ∙ sym k) e)
-        | inr p ↦ absurd (let a = g.root n f.0 z f.1 at f.3 (k ∙ f.4) p in let b = part_stands f.0 f.2 in omega (arith, a, b))
-      ]
-    ])
+    | inr f ↦ (
+      f.0,
+      f.1,
+      f.2,
+      f.3,
+      f.4,
+      f.5,
+      elim (lower f.1.place z.place) [
+        | inl p ↦ inl p
+        | inr r ↦ elim r [
+          | inl e ↦ inr (g.alone f.0 n f.1 z f.3 at (sym f.4 ∙ sym k) e)
+          | inr p ↦ absurd (let a = g.root n f.0 z f.1 at f.3 (k ∙ f.4) p in let b = part_stands f.0 f.2 in omega (arith, a, b))
+        ]
+      ],
+    )
   ]
     where
       none : z.key ≡ x.key → z.key < w.next_key → x.key ≡ w.next_key → ⊥

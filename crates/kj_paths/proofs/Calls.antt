@@ -1,21 +1,19 @@
 -- Each call.
-use Rattle.std.proofs.Common.{zero, suc, ◌≡◌, ℕ, ◌+◌, ◌≤◌, List, [], ◌∷◌, ◌++◌, Bool, true, false, Option, None, Some, arith, refl, sym, ap, ◌∙◌, subst, ◌==◌}
+use Rattle.std.proofs.Common.{zero, suc, ◌≡◌, ℕ, List, [], ◌∷◌, Bool, true, false, Option, None, Some, arith, refl, ap, ◌==◌}
 use Rattle.std.specs.Prelude.{reverse}
 use Rattle.kj_base.specs.declared.outcomes.Outcome.{Outcome}
 use Rattle.kj_base.specs.Queue.{head_of}
 use Rattle.kj_model.specs.World.{World, State, Setting, Named, Held, Promise, CellOf, AskCell, HubOf, Group, Canceler, RequestOf, Awaited, Asked, Ended, held_at}
-use Rattle.kj_model.specs.Changes.{silent, named, unnamed}
-use Rattle.kj_model.specs.Listening.{listened}
-use Rattle.kj_model.specs.Free.{Holding, Every, free, each_freed}
+use Rattle.kj_model.specs.Changes.{silent, unnamed}
+use Rattle.kj_model.specs.Free.{Holding, Every}
 use Rattle.kj_model.specs.Effects.{hub_unnamed, disarmed_node}
 use Rattle.kj_model.specs.Uses.{is_name}
 use Rattle.kj_model.specs.Value.{value, freed}
-use Rattle.kj_model.specs.Calls.{Turned, Fired, Idle, NoMemory, Stopped, turn, with_awaited, held_awaited, Waited, lost_in, lost, awaited_freed, wait_valued, wait_value_at, wait_done, name_back, let_go_of, let_go, wait_turned, wait_turn, wait_more, wait_held, wait_unless, wait, ask_taken_in, ask_taken, take_ask_of, take_ask, take_ended_of, take_ended, take_abandoned_of, take_abandoned, closed_held, each_closed, hubs_of, hubs_closed, detached_closed, names_closed, left_over_closed, close, Call, CallApply, CallTurn, CallRun, CallWait, CallTakeAsk, CallTakeEnded, CallTakeAbandoned, CallClose, call}
+use Rattle.kj_model.specs.Calls.{Turned, Fired, Idle, NoMemory, Stopped, turn, with_awaited, held_awaited, Waited, lost_in, lost, awaited_freed, wait_valued, wait_value_at, name_back, let_go_of, let_go, wait_turned, wait_turn, wait_more, wait_held, wait_unless, ask_taken_in, take_ask_of, take_ended_of, take_abandoned_of, closed_held, each_closed, hubs_of, detached_closed, names_closed, left_over_closed, close, Call, CallApply, CallTurn, CallRun, CallWait, CallTakeAsk, CallTakeEnded, CallTakeAbandoned, CallClose, call}
 use Rattle.kj_model.specs.Owned.{awaited_roots}
 use Rattle.kj_model.specs.Framed.{times}
 use Rattle.kj_ownership.specs.Fits.{Fits}
 use Rattle.kj_ownership.specs.Kept.{Rests, Kept}
-use Rattle.kj_ownership.proofs.Reached.{listened_only}
 use Rattle.kj_ownership.proofs.Turns.{turn_passes}
 use Rattle.kj_ownership.proofs.Waits.{held_rests}
 use Rattle.kj_ownership.proofs.Calls.{rests_of}

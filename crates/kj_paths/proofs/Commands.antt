@@ -1,17 +1,16 @@
 -- Each command.
-use Rattle.std.proofs.Common.{◌≡◌, ℕ, ◌+◌, ◌≤◌, List, [], ◌∷◌, ◌++◌, Bool, true, false, Option, None, Some, arith, refl, sym, ap, ◌∙◌, subst}
+use Rattle.std.proofs.Common.{◌≡◌, ℕ, ◌+◌, List, [], ◌∷◌, ◌++◌, Bool, true, false, Option, None, Some, arith, refl, sym, ap, ◌∙◌, subst}
 use Rattle.std.specs.Prelude.{nat_eq, is_some}
-use Rattle.kj_base.specs.declared.outcomes.Outcome.{Outcome}
 use Rattle.kj_base.specs.declared.outcomes.Outcome.TheVariants.{Value, Broken as BrokenBy}
 use Rattle.kj_base.specs.Queue.{DepthFirst, BreadthFirst}
 use Rattle.kj_base.specs.Commands.{Command, Now, Broken, Later, Last, Pair, Then, Chain, Eager, Fork, Branch, Race, All, Fast, Fulfil, Reject, DropCell, NewSet, Add, Clear, OnEmpty, NewCanceler, Wrap, Cancel, Detach, Drop, Ask, Begin, Stop, Reply}
-use Rattle.kj_model.specs.Nodes.{Form, Content, Tree, Ready, Later as LaterNode, Last as LastNode, Cell, Branch as BranchNode, Then as ThenNode, Chain as ChainNode, Eager as EagerNode, Wrap as WrapNode, Hub, Race as RaceNode, Join, Request, form_at}
+use Rattle.kj_model.specs.Nodes.{Form, Tree, Ready, Later as LaterNode, Last as LastNode, Cell, Branch as BranchNode, Then as ThenNode, Chain as ChainNode, Eager as EagerNode, Wrap as WrapNode, Hub, Race as RaceNode, Join, Request, form_at}
 use Rattle.kj_model.specs.World.{World, State, Setting, Promise, CellOf, AskCell, HubOf, Group, Canceler, RequestOf, held_at}
 use Rattle.kj_model.specs.Changes.{silent, named, unnamed}
 use Rattle.kj_model.specs.Places.{built}
-use Rattle.kj_model.specs.Outcomes.{cancelled, fulfiller_dropped}
+use Rattle.kj_model.specs.Outcomes.{fulfiller_dropped}
 use Rattle.kj_model.specs.Free.{Guard, free, usual}
-use Rattle.kj_model.specs.Effects.{node_of, node_named, leaf_built, over_built, over_named, with_branch_in, branch_built, trees_named, with_ended, without_abandoned, sides_built, numbers_from, chain_built, fork_built, request_built, effect}
+use Rattle.kj_model.specs.Effects.{node_of, node_named, leaf_built, over_built, over_named, with_branch_in, branch_built, trees_named, without_abandoned, sides_built, numbers_from, chain_built, fork_built, request_built, effect}
 use Rattle.kj_model.specs.Apply.{Refused, refusal, applied, apply}
 use Rattle.kj_model.proofs.Spared.{same_number}
 use Rattle.kj_model.proofs.Once.{false_by}

@@ -1,34 +1,23 @@
 -- Each command that isn't refused.
-use Rattle.std.proofs.Common.{◌≡◌, inl, inr, ℕ, ◌+◌, ◌≤◌, List, [], ◌∷◌, ◌++◌, Bool, true, false, Option, None, Some, arith, refl, sym, ap, ◌∙◌, subst}
-use Rattle.std.specs.Prelude.{nat_eq, reverse, option_to_list}
+use Rattle.std.proofs.Common.{◌≡◌, ℕ, ◌+◌, ◌≤◌, List, [], ◌∷◌, ◌++◌, Bool, true, false, Option, None, Some, arith, refl, sym, ap, ◌∙◌, subst}
+use Rattle.std.specs.Prelude.{nat_eq, reverse}
 use Rattle.kj_base.specs.declared.outcomes.Outcome.{Outcome}
-use Rattle.kj_base.specs.declared.outcomes.Outcome.TheVariants.{Value, Broken as BrokenBy}
-use Rattle.kj_base.specs.Queue.{Way, DepthFirst, BreadthFirst, disarmed}
-use Rattle.kj_base.specs.Commands.{Command, Now, Broken, Later, Last, Pair, Then, Chain, Eager, Fork, Branch, Race, All, Fast, Fulfil, Reject, DropCell, NewSet, Add, Clear, OnEmpty, NewCanceler, Wrap, Cancel, Detach, Drop, Ask, Begin, Stop, Reply}
-use Rattle.kj_model.specs.Nodes.{Form, Content, Tree, Kept, Waits, Ready, Later as LaterNode, Last as LastNode, Cell, Branch as BranchNode, Then as ThenNode, Chain as ChainNode, Eager as EagerNode, Wrap as WrapNode, Hub, Side, Race as RaceNode, Join, Task, Request, form_at, parts_of, is_in, dropped}
-use Rattle.kj_model.specs.World.{World, State, Setting, Held, Promise, CellOf, AskCell, HubOf, Group, Canceler, RequestOf, Asked, Ended, held_at}
-use Rattle.kj_model.specs.Changes.{silent, put, named, unnamed, with_queue}
+use Rattle.kj_base.specs.Queue.{Way, DepthFirst}
+use Rattle.kj_model.specs.Nodes.{Form, Content, Tree, Kept, Ready, Cell, Wrap as WrapNode, Hub, Task, form_at}
+use Rattle.kj_model.specs.World.{World, State, Held, Promise, HubOf, Group, Canceler, Asked, Ended, held_at}
+use Rattle.kj_model.specs.Changes.{silent, put, named, unnamed}
 use Rattle.kj_model.specs.Places.{built}
-use Rattle.kj_model.specs.Listening.{listened, settled, settled_form, announced}
-use Rattle.kj_model.specs.Outcomes.{void, cancelled, fulfiller_dropped}
-use Rattle.kj_model.specs.Free.{Guard, free, each_freed, is_guarded, free_unless, free_unreferenced, reference_gone, guarded_too, usual}
-use Rattle.kj_model.specs.Effects.{node_named, leaf_built, over_built, over_named, with_branch_in, branch_built, trees_named, added_in, added, with_detached, detached_built, emptied, now_empty, cleared_in, cleared, empty_built_in, empty_built, wrapped_in, wrap_built, disarmed_node, wrap_cancelled, each_cancelled, wraps_of, canceled, hub_unnamed_in, hub_unnamed, dropped_held, with_ask, ask_built, with_ended, stopped_request, without_abandoned, replied, sides_built, request_built, chain_built, fork_built, effect}
-use Rattle.kj_model.specs.Apply.{Refused, refusal, applied, apply}
-use Rattle.kj_model.specs.Owned.{awaited_roots}
+use Rattle.kj_model.specs.Listening.{settled, settled_form}
+use Rattle.kj_model.specs.Outcomes.{void, cancelled}
+use Rattle.kj_model.specs.Free.{Guard, free, each_freed, is_guarded, free_unless, free_unreferenced, reference_gone, guarded_too}
+use Rattle.kj_model.specs.Effects.{node_named, leaf_built, over_built, added_in, added, with_detached, detached_built, emptied, now_empty, cleared_in, cleared, empty_built_in, wrapped_in, disarmed_node, wrap_cancelled, each_cancelled, wraps_of, canceled, hub_unnamed_in, hub_unnamed, dropped_held}
 use Rattle.kj_model.specs.Framed.{times, name_numbers}
-use Rattle.kj_model.proofs.Spared.{no_form}
-use Rattle.kj_model.proofs.Members.{in_self}
 use Rattle.kj_model.proofs.Counts.{times_app}
-use Rattle.kj_ownership.proofs.Moves.{root_out}
-use Rattle.kj_ownership.proofs.Premises.{Allowed, allowed, found_none, new_absent, promise_is, hub_is, group_is, AreSources}
 use Rattle.kj_ownership.proofs.Builders.{held_kept, held_left, held_apart, absent_other}
-use Rattle.kj_ownership.proofs.Makes.{over_sources}
-use Rattle.kj_ownership.specs.Standing.{one_if}
-use Rattle.kj_paths.proofs.Laid.{Laid, laid_fewer, laid_roots}
-use Rattle.kj_paths.proofs.Built.{built_laid}
-use Rattle.kj_paths.proofs.Moves.{announced_laid, listened_laid, named_laid, renamed_laid, unnamed_laid, unnamed_lost, others_laid, Lessens, put_laid, bare_laid}
+use Rattle.kj_paths.proofs.Laid.{Laid, laid_roots}
+use Rattle.kj_paths.proofs.Moves.{announced_laid, listened_laid, named_laid, renamed_laid, unnamed_lost, others_laid, Lessens, put_laid, bare_laid}
 use Rattle.kj_paths.proofs.Freed.{free_laid, each_laid}
-use Rattle.kj_paths.proofs.Builders.{built_next, built_names, leaf_laid, over_one, over_laid, over_named_laid, each_listened_laid, join_laid, over_newest}
+use Rattle.kj_paths.proofs.Builders.{built_names, leaf_laid, over_laid}
 
 -- lists in which no node stands, and the queue
 pub lists_laid : (asks : List Asked) (ended : List Ended) (abandoned : List ℕ) (loose : List ℕ) (w : World) → Laid loose w → Laid loose (record w { asks = asks; ended = ended; abandoned = abandoned })

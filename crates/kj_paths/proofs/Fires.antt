@@ -1,36 +1,32 @@
 -- Events that fire.
-use Rattle.std.proofs.Common.{◌≡◌, ◌⊎◌, inl, inr, ℕ, ◌+◌, ◌≤◌, List, [], ◌∷◌, ◌++◌, Bool, true, false, not, cond, Option, None, Some, arith, refl, sym, ap, ◌∙◌, subst, ◌==◌}
-use Rattle.std.specs.Prelude.{nat_eq, is_some}
+use Rattle.std.proofs.Common.{◌≡◌, ℕ, ◌+◌, ◌≤◌, List, [], ◌∷◌, ◌++◌, Bool, true, false, not, cond, Option, None, Some, arith, refl, sym, ap, ◌∙◌, subst, ◌==◌}
+use Rattle.std.specs.Prelude.{nat_eq}
 use Rattle.std.proofs.lemmas.Bool.{false≢true}
 use Rattle.std.proofs.lemmas.Bool.Decides.{nat_tests}
 use Rattle.kj_base.specs.declared.outcomes.Outcome.{Outcome}
-use Rattle.kj_base.specs.declared.outcomes.Outcome.TheVariants.{Value, Broken}
 use Rattle.kj_base.specs.Queue.{DepthFirst}
-use Rattle.kj_model.specs.Nodes.{Entry, Form, Content, Tree, Kept, Stage, Waits, Fired, Keeps, Gone, Ready, Then, Chain, Eager, Wrap, Hub, Side, Race, Join, Task, Request, form_at, owner_of, kept_form, dropped, is_in}
-use Rattle.kj_model.specs.World.{World, State, Setting, Named, Held, Promise, CellOf, AskCell, HubOf, Group, Canceler, RequestOf, held_at, depth_of}
-use Rattle.kj_model.specs.Changes.{silent, put, named, gone}
-use Rattle.kj_model.specs.Listening.{announced, listened, join_ready}
-use Rattle.kj_model.specs.Effects.{now_empty, with_ended}
-use Rattle.kj_model.specs.Value.{Given, Gave, Took, value, value_link, freed, run_step}
-use Rattle.kj_model.specs.Fire.{chain_ended, replaced, kept_at, keeps, kept_then, kept_from, each_announced, branches_of, branches_announced, other_side, tree_freed, race_won, race_fired, announced_if, all_fired, fast_announced, fast_fired, join_fired, side_fired_under, side_fired_by, side_fired, has_task, without_task, group_of, group_error, group_left, set_left, without_left_over, task_gone, task_stepped, error_run, task_ended, task_left, task_valued, request_valued, fire_form, with_firing, fire}
-use Rattle.kj_model.specs.Owned.{name_roots, awaited_roots, tree_roots}
+use Rattle.kj_model.specs.Nodes.{Entry, Form, Content, Tree, Kept, Stage, Waits, Fired, Keeps, Gone, Ready, Then, Chain, Eager, Wrap, Hub, Side, Race, Join, Task, Request, form_at, owner_of, kept_form, dropped}
+use Rattle.kj_model.specs.World.{World, State, Setting, Named, Held, Promise, CellOf, AskCell, HubOf, Group, Canceler, RequestOf, held_at}
+use Rattle.kj_model.specs.Changes.{silent, put, named}
+use Rattle.kj_model.specs.Listening.{announced, join_ready}
+use Rattle.kj_model.specs.Effects.{now_empty}
+use Rattle.kj_model.specs.Value.{Given, Gave, Took, value, freed}
+use Rattle.kj_model.specs.Fire.{chain_ended, kept_at, keeps, kept_then, kept_from, each_announced, branches_of, branches_announced, other_side, tree_freed, race_won, announced_if, fast_announced, join_fired, side_fired_under, side_fired_by, side_fired, has_task, without_task, group_of, group_left, set_left}
+use Rattle.kj_model.specs.Owned.{name_roots, awaited_roots}
 use Rattle.kj_model.specs.Framed.{times}
 use Rattle.kj_model.proofs.Spared.{same_number, form_put_other}
-use Rattle.kj_model.proofs.Members.{in_self}
-use Rattle.kj_model.proofs.Once.{both_ways, false_by}
+use Rattle.kj_model.proofs.Once.{false_by}
 use Rattle.kj_model.proofs.Counts.{times_app}
-use Rattle.kj_ownership.specs.Owners.{is_live, owns, is_hub_form}
+use Rattle.kj_ownership.specs.Owners.{is_live, is_hub_form}
 use Rattle.kj_ownership.specs.Standing.{one_if, owned_times, Owned}
-use Rattle.kj_ownership.specs.Shapes.{Shaped}
-use Rattle.kj_ownership.specs.Fits.{Fits}
 use Rattle.kj_ownership.proofs.Stays.{in_times, roots_app}
 use Rattle.kj_ownership.proofs.Sides.{owner_is}
 use Rattle.kj_ownership.proofs.Tasks.{dropped_times, found_name, HasLeft, left_world}
-use Rattle.kj_paths.proofs.Laid.{Laid, laid_fewer, laid_roots}
-use Rattle.kj_paths.proofs.Moves.{announced_laid, listened_laid, named_laid, renamed_laid, others_laid, Lessens, put_laid, bare_laid}
-use Rattle.kj_paths.proofs.Effects.{some_form, lists_laid, empty_now_laid}
-use Rattle.kj_paths.proofs.Values.{given_loose, none_loose, freed_laid, step_laid, value_laid, link_laid}
-use Rattle.kj_paths.proofs.Replaced.{gone_laid, chain_goes}
+use Rattle.kj_paths.proofs.Laid.{Laid}
+use Rattle.kj_paths.proofs.Moves.{announced_laid, listened_laid, renamed_laid, others_laid, Lessens, put_laid, bare_laid}
+use Rattle.kj_paths.proofs.Effects.{some_form, empty_now_laid}
+use Rattle.kj_paths.proofs.Values.{given_loose, freed_laid, value_laid}
+use Rattle.kj_paths.proofs.Replaced.{chain_goes}
 
 -- a Chain
 pub chain_laid : (n link : ℕ) (o : Option Given) (s : State) → Laid (given_loose o) s.world → Laid [] (chain_ended n link o s).world

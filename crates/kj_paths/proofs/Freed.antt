@@ -1,17 +1,14 @@
 -- A tree is freed.
-use Rattle.std.proofs.Common.{◌≡◌, ℕ, ◌+◌, ◌≤◌, List, [], ◌∷◌, ◌++◌, Bool, true, false, not, cond, Option, None, Some, arith, refl, sym, ap, ◌∙◌, subst}
-use Rattle.std.specs.Prelude.{filter}
-use Rattle.std.proofs.lemmas.Bool.{false≢true}
+use Rattle.std.proofs.Common.{◌≡◌, ℕ, ◌≤◌, List, [], ◌∷◌, Bool, true, false, not, cond, Option, None, Some, arith, refl, sym, ap, ◌∙◌}
 use Rattle.kj_base.specs.Places.{Spot, spot_of}
 use Rattle.kj_model.specs.Nodes.{Form, form_at, is_in}
-use Rattle.kj_model.specs.World.{World, State, depth_of}
+use Rattle.kj_model.specs.World.{State, depth_of}
 use Rattle.kj_model.specs.Free.{Guard, free, free_to, each_freed}
 use Rattle.kj_model.specs.Falling.{falling, some_staying}
 use Rattle.kj_model.specs.Trees.{none_if}
-use Rattle.kj_model.specs.Owned.{tree_roots}
-use Rattle.kj_model.specs.Framed.{times, NamesApart, FreedBy}
+use Rattle.kj_model.specs.Framed.{FreedBy}
 use Rattle.kj_model.proofs.Falling.{node_frees}
-use Rattle.kj_ownership.specs.Owners.{is_live, owns, is_hub_form}
+use Rattle.kj_ownership.specs.Owners.{is_hub_form}
 use Rattle.kj_ownership.specs.Standing.{one_if}
 use Rattle.kj_ownership.proofs.Stays.{hub_stays, live_before, owns_before, roots_stay}
 use Rattle.kj_paths.proofs.Laid.{Laid, Shrinks, laid_shrinks, spot_left, no_spot}

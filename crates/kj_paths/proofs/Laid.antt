@@ -1,10 +1,10 @@
 -- What a loop keeps of where its nodes lie, whatever else holds.
-use Rattle.std.proofs.Common.{◌≡◌, ◌⊎◌, inl, inr, ℕ, ◌+◌, ◌≤◌, ◌<◌, List, [], ◌∷◌, ◌++◌, Bool, true, false, not, cond, Option, None, Some, arith, refl, sym, ap, ◌∙◌, subst}
-use Rattle.std.specs.Prelude.{filter, find, nat_eq, is_some}
+use Rattle.std.proofs.Common.{◌≡◌, ℕ, ◌+◌, ◌≤◌, ◌<◌, List, [], ◌∷◌, Bool, true, false, cond, Option, None, Some, arith, refl, sym, ap, ◌∙◌, subst}
+use Rattle.std.specs.Prelude.{filter}
 use Rattle.std.proofs.lemmas.Bool.{false≢true}
 use Rattle.std.proofs.lemmas.Bool.Decides.{nat_tests}
 use Rattle.kj_base.specs.Places.{Spot, spot_of}
-use Rattle.kj_model.specs.Nodes.{Form, form_at, is_in}
+use Rattle.kj_model.specs.Nodes.{form_at}
 use Rattle.kj_model.specs.World.{World, new_world}
 use Rattle.kj_model.specs.Owned.{tree_roots}
 use Rattle.kj_model.specs.Framed.{times, NamesApart}

@@ -1,12 +1,11 @@
 -- Moves that place nothing: names, lists, the queue, and a form in place of another.
-use Rattle.std.proofs.Common.{◌≡◌, ◌⊎◌, inl, inr, ℕ, ◌+◌, ◌≤◌, List, [], ◌∷◌, ◌++◌, Bool, true, false, cond, Option, None, Some, arith, refl, sym, ap, ◌∙◌, subst, ◌==◌}
+use Rattle.std.proofs.Common.{◌≡◌, ℕ, ◌+◌, ◌≤◌, List, [], ◌∷◌, ◌++◌, Bool, true, false, cond, Option, None, Some, arith, refl, sym, ap, ◌∙◌, subst, ◌==◌}
 use Rattle.std.specs.Prelude.{nat_eq, is_some}
 use Rattle.std.proofs.lemmas.Bool.{false≢true}
 use Rattle.std.proofs.lemmas.Bool.Decides.{nat_tests}
 use Rattle.kj_base.specs.Queue.{Way}
-use Rattle.kj_base.specs.Places.{spot_of}
 use Rattle.kj_model.specs.Nodes.{Entry, Form, form_at, parts_of, parts_found, is_in, with_form}
-use Rattle.kj_model.specs.World.{World, Named, Held, Awaited, Asked, Ended, held_at}
+use Rattle.kj_model.specs.World.{World, Named, Held, Awaited, held_at}
 use Rattle.kj_model.specs.Changes.{put, named, unnamed, with_new, without_name}
 use Rattle.kj_model.specs.Listening.{announced, listened}
 use Rattle.kj_model.specs.Owned.{held_roots, name_roots, awaited_roots, tree_roots}
@@ -17,7 +16,7 @@ use Rattle.kj_ownership.specs.Owners.{is_live, owns, is_hub_form}
 use Rattle.kj_ownership.specs.Standing.{one_if}
 use Rattle.kj_ownership.proofs.Stays.{name_roots_total, roots_app}
 use Rattle.kj_ownership.proofs.Reached.{QueueOnly, announced_only, listened_only}
-use Rattle.kj_paths.proofs.Laid.{stands, Laid, laid_shrinks, laid_roots}
+use Rattle.kj_paths.proofs.Laid.{Laid, laid_shrinks, laid_roots}
 
 -- the queue
 queue_laid : (loose : List ℕ) (w v : World) → QueueOnly w v → Laid loose w → Laid loose v

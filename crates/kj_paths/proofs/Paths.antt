@@ -1,6 +1,6 @@
 -- The paths of a world in which each live node stands in one place; lists of calls.
-use Rattle.std.proofs.Common.{◌≡◌, ℕ, ◌+◌, ◌≤◌, ◌<◌, List, [], ◌∷◌, Bool, true, false, cond, Option, None, Some, arith, refl, sym, ap, ◌∙◌, subst, ◌==◌}
-use Rattle.std.specs.Prelude.{nat_eq, map, find}
+use Rattle.std.proofs.Common.{◌≡◌, ℕ, ◌+◌, ◌≤◌, ◌<◌, List, [], ◌∷◌, Bool, true, false, cond, Option, Some, arith, refl, sym, ap, ◌∙◌, subst, ◌==◌}
+use Rattle.std.specs.Prelude.{nat_eq, map}
 use Rattle.std.proofs.lemmas.Bool.{false≢true}
 use Rattle.std.proofs.lemmas.Bool.Decides.{nat_tests}
 use Rattle.kj_base.specs.Places.{Spot, spot_of}
@@ -12,8 +12,8 @@ use Rattle.kj_model.specs.Owned.{numbers}
 use Rattle.kj_model.specs.Framed.{times, total}
 use Rattle.kj_model.proofs.Members.{in_none}
 use Rattle.kj_model.proofs.Once.{both_ways, false_by}
-use Rattle.kj_ownership.specs.Owners.{is_live, owns}
-use Rattle.kj_ownership.specs.Standing.{owned_times, Owned}
+use Rattle.kj_ownership.specs.Owners.{is_live}
+use Rattle.kj_ownership.specs.Standing.{Owned}
 use Rattle.kj_ownership.proofs.Flat.{live_number}
 use Rattle.kj_ownership.proofs.Moves.{number_live}
 use Rattle.kj_ownership.proofs.Stays.{in_times, out_times}

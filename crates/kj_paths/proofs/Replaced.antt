@@ -1,24 +1,23 @@
 -- A promise takes the place of a Chain, which goes.
-use Rattle.std.proofs.Common.{◌≡◌, ◌⊎◌, inl, inr, ℕ, ◌+◌, ◌≤◌, ◌<◌, List, [], ◌∷◌, ◌++◌, Bool, true, false, not, cond, Option, None, Some, arith, refl, sym, ap, ◌∙◌, subst, ◌==◌}
-use Rattle.std.specs.Prelude.{nat_eq, is_some, filter, map, option_to_list}
+use Rattle.std.proofs.Common.{◌≡◌, ◌⊎◌, inl, inr, ℕ, ◌+◌, ◌≤◌, ◌<◌, List, [], ◌∷◌, Bool, true, false, not, cond, Option, None, Some, arith, refl, sym, ap, ◌∙◌, subst, ◌==◌}
+use Rattle.std.specs.Prelude.{nat_eq, is_some, map}
 use Rattle.std.proofs.lemmas.Bool.{false≢true}
 use Rattle.std.proofs.lemmas.Bool.Decides.{nat_tests}
 use Rattle.kj_base.specs.Places.{Spot, spot_of}
-use Rattle.kj_model.specs.Nodes.{Entry, Form, Content, Tree, Kept, Stage, Waits, Fired, Keeps, Gone, Then, Chain, Eager, Wrap, Hub, Side, Race, Join, Task, Request, form_at, parts_of, parts_found, is_in, without, renamed, renamed_if, renamed_tree, renamed_content, renamed_stage, renamed_form, with_tree_renamed}
-use Rattle.kj_model.specs.World.{World, State, Named, Held, Promise, Awaited}
+use Rattle.kj_model.specs.Nodes.{Form, Tree, Kept, Waits, Fired, Keeps, Gone, Then, Eager, Wrap, Hub, Side, Task, Request, form_at, parts_found, is_in, renamed, renamed_if}
+use Rattle.kj_model.specs.World.{World, Named, Held, Promise, Awaited}
 use Rattle.kj_model.specs.Changes.{gone_world, with_queue}
 use Rattle.kj_model.specs.Listening.{listened}
 use Rattle.kj_model.specs.Fire.{held_renamed, named_renamed, awaited_renamed, replaced}
 use Rattle.kj_model.specs.Owned.{held_roots, name_roots, awaited_roots, tree_roots}
-use Rattle.kj_model.specs.Framed.{times, name_numbers, NamesApart}
+use Rattle.kj_model.specs.Framed.{times, name_numbers}
 use Rattle.kj_model.proofs.Spared.{same_number, form_without_other, form_without_same}
 use Rattle.kj_model.proofs.Members.{in_one, in_self}
-use Rattle.kj_model.proofs.Once.{both_ways, false_by}
 use Rattle.kj_model.proofs.Counts.{times_app}
 use Rattle.kj_ownership.specs.Owners.{is_live, owns, is_hub_form}
 use Rattle.kj_ownership.specs.Standing.{one_if}
 use Rattle.kj_ownership.proofs.Stays.{in_times, roots_app}
-use Rattle.kj_ownership.proofs.Reached.{QueueOnly, listened_only}
+use Rattle.kj_ownership.proofs.Reached.{listened_only}
 use Rattle.kj_ownership.proofs.Replaced.{some_renamed, form_renamed, live_renamed}
 use Rattle.kj_paths.proofs.Laid.{stands, Laid, IsBefore, laid_shrinks, laid_roots, spot_left, no_spot}
 

@@ -1,11 +1,11 @@
 -- Each event, turn and run of turns.
-use Rattle.std.proofs.Common.{zero, suc, ◌≡◌, inl, inr, ℕ, ◌+◌, ◌≤◌, List, [], ◌∷◌, ◌++◌, Bool, true, false, Option, None, Some, arith, refl, sym, ap, ◌∙◌, subst}
+use Rattle.std.proofs.Common.{zero, suc, ◌≡◌, inl, ℕ, [], ◌∷◌, Bool, true, false, Option, None, Some, arith, refl, sym, ap, ◌∙◌}
 use Rattle.std.specs.Prelude.{is_some}
 use Rattle.std.proofs.lemmas.Bool.{false≢true}
 use Rattle.kj_base.specs.declared.outcomes.Outcome.{Outcome}
 use Rattle.kj_base.specs.declared.outcomes.Outcome.TheVariants.{Value, Broken}
 use Rattle.kj_base.specs.Queue.{DepthFirst, head_of}
-use Rattle.kj_model.specs.Nodes.{Form, Content, Chain, Eager, Wrap, Hub, Side, Task, Request, form_at, parts_found, is_in}
+use Rattle.kj_model.specs.Nodes.{Form, Chain, Eager, Wrap, Hub, Side, Task, Request, form_at, parts_found, is_in}
 use Rattle.kj_model.specs.World.{World, State, Setting, RequestOf, depth_of}
 use Rattle.kj_model.specs.Changes.{silent, put, named}
 use Rattle.kj_model.specs.Listening.{announced}
@@ -13,7 +13,6 @@ use Rattle.kj_model.specs.Effects.{with_ended}
 use Rattle.kj_model.specs.Value.{Given, value, value_link, freed, run_step}
 use Rattle.kj_model.specs.Fire.{branches_announced, group_of, group_error, set_left, without_left_over, task_gone, task_stepped, error_run, task_ended, task_valued, request_valued, fire_form, with_firing, fire}
 use Rattle.kj_model.specs.Calls.{Turned, Fired, Idle, NoMemory, Stopped, rewound_world, taken_world, turn_at, turn_unless, turn, more_turns, run}
-use Rattle.kj_model.specs.Framed.{times}
 use Rattle.kj_model.proofs.Members.{in_self}
 use Rattle.kj_model.proofs.Once.{false_by}
 use Rattle.kj_ownership.specs.Owners.{is_live, owns}
@@ -26,7 +25,7 @@ use Rattle.kj_ownership.proofs.Evaluates.{CommandsKeep, value_keeps, Clears, tre
 use Rattle.kj_ownership.proofs.Fires.{fired_frames}
 use Rattle.kj_ownership.proofs.Applied.{commands_keep}
 use Rattle.kj_ownership.proofs.TaskFires.{set_left_is}
-use Rattle.kj_ownership.proofs.Turns.{firing_standing, fires_shaped, fire_passes, rewound_passes, taken_passes, turn_passes}
+use Rattle.kj_ownership.proofs.Turns.{firing_standing, fires_shaped, rewound_passes, taken_passes, turn_passes}
 use Rattle.kj_paths.proofs.Laid.{Laid, laid_roots}
 use Rattle.kj_paths.proofs.Moves.{announced_laid, named_laid, others_laid, bare_laid}
 use Rattle.kj_paths.proofs.Effects.{lists_laid}

@@ -1,5 +1,5 @@
 -- Steps, and the evaluation of trees.
-use Rattle.std.proofs.Common.{zero, suc, ◌≡◌, ℕ, ◌+◌, ◌≤◌, List, [], ◌∷◌, ◌++◌, Bool, true, false, Option, None, Some, arith, refl, sym, ap, ◌∙◌, subst}
+use Rattle.std.proofs.Common.{zero, suc, ◌≡◌, ℕ, List, [], ◌∷◌, ◌++◌, Bool, true, false, Option, None, Some, arith, refl}
 use Rattle.kj_base.specs.declared.outcomes.Outcome.{Outcome}
 use Rattle.kj_base.specs.Commands.{Command, Action}
 use Rattle.kj_base.specs.declared.endings.Ending.{Ending}
@@ -7,11 +7,10 @@ use Rattle.kj_base.specs.declared.endings.Ending.TheVariants.{Value as Give, Thr
 use Rattle.kj_base.specs.Record.{Item, Run}
 use Rattle.kj_model.specs.Nodes.{Form, Then, Race, Join, Side, Waits, Fired, Keeps, Gone, form_at}
 use Rattle.kj_model.specs.World.{World, State, Setting, Held, Promise as PromiseOf, held_at, depth_of}
-use Rattle.kj_model.specs.Changes.{silent, put, unnamed}
+use Rattle.kj_model.specs.Changes.{silent, put}
 use Rattle.kj_model.specs.Free.{usual}
 use Rattle.kj_model.specs.Apply.{Refused, apply}
-use Rattle.kj_model.specs.Value.{Given, Gave, Took, took_if, holds_firing, promise_taken, promise_ended, ended, rest_applied, all_applied, ended_if, acted, with_item, with_stopped, answered, run_step, chosen, step_passed, freed, then_valued, given_outcome, outcome_given, then_of, side_valued, side_of, value_side, rest_valued, all_valued, join_valued, winner_valued, value_form, value_to, value, value_link}
-use Rattle.kj_model.specs.Framed.{times}
+use Rattle.kj_model.specs.Value.{Given, Took, took_if, holds_firing, promise_taken, promise_ended, ended, rest_applied, all_applied, ended_if, with_item, with_stopped, answered, run_step, chosen, step_passed, freed, then_valued, then_of, side_valued, side_of, value_side, rest_valued, all_valued, join_valued, winner_valued, value_form, value_to, value, value_link}
 use Rattle.kj_paths.proofs.Laid.{Laid, laid_fewer, laid_roots}
 use Rattle.kj_paths.proofs.Moves.{unnamed_laid, bare_laid}
 use Rattle.kj_paths.proofs.Freed.{free_laid}

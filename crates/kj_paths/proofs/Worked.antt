@@ -1,13 +1,13 @@
 -- The worked calls.
-use Rattle.std.proofs.Common.{◌≡◌, ◌∙◌, ℕ, ◌+◌, ◌≤◌, List, [], ◌∷◌, ◌++◌, Bool, true, refl, sym, ap, length}
+use Rattle.std.proofs.Common.{◌≡◌, ◌∙◌, ℕ, ◌+◌, ◌≤◌, List, [], ◌∷◌, ◌++◌, true, refl, sym, ap, length}
 use Rattle.std.specs.Prelude.{nat_le}
 use Rattle.std.proofs.lemmas.Bool.{and_parts}
 use Rattle.std.proofs.lemmas.Bool.Decides.{nat_tests}
 use Rattle.std.proofs.Common.{arith}
-use Rattle.kj_base.specs.Places.{Spot, Row, counts, table_fits, arenas_fit}
+use Rattle.kj_base.specs.Places.{counts, table_fits, arenas_fit}
 use Rattle.kj_base.specs.Commands.{Drop, Ask}
 use Rattle.kj_model.specs.World.{State, Named, held_at, new_state}
-use Rattle.kj_model.specs.Calls.{Call, CallApply, CallTurn, CallTakeAsk, CallTakeAbandoned, calls}
+use Rattle.kj_model.specs.Calls.{CallApply, CallTurn, CallTakeAsk, calls}
 use Rattle.kj_model.specs.Free.{free_to}
 use Rattle.kj_model.specs.Value.{value_to}
 use Rattle.kj_ownership.specs.Fits.{Fits}

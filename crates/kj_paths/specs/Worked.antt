@@ -1,5 +1,5 @@
 -- Worked calls: a path of six nodes in one arena, whose Chain gives its place to a promise with a path of its own.
-use Rattle.std.specs.Prelude.{ℕ, List, [], ◌∷◌, ◌++◌, None, Some, ◌&&◌}
+use Rattle.std.specs.Prelude.{ℕ, List, [], ◌∷◌, None, Some, ◌&&◌}
 use Rattle.kj_base.specs.Commands.{Later, Then, Chain, Detach, Ask, Drop}
 use Rattle.kj_base.specs.Places.{Spot, table_fits, arenas_fit}
 use Rattle.kj_base.specs.declared.numbers.Limits.{Limits}
