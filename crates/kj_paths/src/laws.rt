@@ -36,7 +36,8 @@ pub fn free_arenas_have_no_live_node()
 /// nodes in an arena of its own takes the place of a Chain in the middle of a path of six.
 pub fn a_promise_comes_with_its_path()
     ensures fits { Fits worked_setting }
-    ensures asked { AreOpen worked_setting (worked_builds ++ worked_turn) (new_state worked_limits) }
+    ensures asked { AreOpen worked_setting (worked_builds ++ worked_turn)
+        (new_state worked_limits) }
     ensures before { (calls worked_setting worked_builds (new_state worked_limits)).0.world.spots
         ≡ worked_path }
     ensures after { (calls worked_setting (worked_builds ++ worked_turn)
