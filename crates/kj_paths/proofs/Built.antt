@@ -101,7 +101,7 @@ differs : (m n : ℕ) → m < n → nat_eq m n ≡ false
 differs m n h = grind (arith, nat_tests)
 
 -- which of two places is the lower
-lower : (a b : ℕ) → (a < b) ⊎ ((a ≡ b) ⊎ (b < a))
+pub lower : (a b : ℕ) → (a < b) ⊎ ((a ≡ b) ⊎ (b < a))
 lower a b = decide (nat_lt a b) (nat_lt b a) refl refl
   where
     decide : (c d : Bool) → nat_lt a b ≡ c → nat_lt b a ≡ d → (a < b) ⊎ ((a ≡ b) ⊎ (b < a))

@@ -12,3 +12,4 @@ pub mod Turns
 pub mod Calls
 pub mod Paths
 pub mod Worked
+pub mod Rows

@@ -44,7 +44,7 @@ spot_there n (y ∷ ys) i = decide (nat_eq y.number n) refl (λ j. spot_there n 
     decide true e ih = (y, here e)
     decide false e ih = let r = ih (rest e) in (r.0, skip e ∙ r.1)
 
-spot_number : (n : ℕ) (x : Spot) (xs : List Spot) → spot_of n xs ≡ Some x → is_in n (map (λ (y : Spot). y.number) xs) ≡ true
+pub spot_number : (n : ℕ) (x : Spot) (xs : List Spot) → spot_of n xs ≡ Some x → is_in n (map (λ (y : Spot). y.number) xs) ≡ true
 spot_number n x [] at = absurd (no_spot x at)
 spot_number n x (y ∷ ys) at = decide (nat_eq y.number n) refl (λ h. spot_number n x ys h)
   where
@@ -129,7 +129,7 @@ used_spot key (y ∷ ys) a u = decide (nat_eq y.key key) refl (λ h. used_spot k
 pub used_lives : (w : World) (key : ℕ) → Paths w → is_used key w.spots ≡ true → LivesIn key w
 used_lives w key p u = let r = used_spot key w.spots p.once u in record { number = r.0.number; spot = r.0; live = p.live r.0.number r.0 r.1; placed = r.1; here = r.2 }
 
-spot_used : (n : ℕ) (x : Spot) (key : ℕ) (xs : List Spot) → spot_of n xs ≡ Some x → x.key ≡ key → is_used key xs ≡ true
+pub spot_used : (n : ℕ) (x : Spot) (key : ℕ) (xs : List Spot) → spot_of n xs ≡ Some x → x.key ≡ key → is_used key xs ≡ true
 spot_used n x key [] at e = absurd (no_spot x at)
 spot_used n x key (y ∷ ys) at e = decide (nat_eq y.number n) refl (λ h. spot_used n x key ys h e)
   where
