@@ -13,7 +13,7 @@ use Rattle.kj_model.specs.Falling.{AreDisjoint}
 use Rattle.kj_model.specs.Framed.{times}
 use Rattle.kj_model.proofs.Members.{Within, in_either, in_left, in_right, in_none}
 use Rattle.kj_model.proofs.Once.{both_ways, false_by, apart_join}
-use Rattle.kj_ownership.specs.Owners.{owns}
+use Rattle.kj_ownership.specs.Owners.{is_live, owns}
 use Rattle.kj_ownership.proofs.Flat.{few}
 use Rattle.kj_ownership.proofs.Stays.{in_times}
 use Rattle.kj_paths.specs.Paths.{Paths, is_used}
@@ -263,7 +263,7 @@ of_over m n count spots (Some x) at i = decide (nat_lt x.place count) refl i
 record RowCell (m : ℕ) (w : World) (rows : List Row) : Type 0 where
   number : ℕ
   of : CellOf m w.spots number
-  unowned : (q : ℕ) → owns q number w.nodes ≡ false
+  unowned : is_live number w.nodes ≡ true → (q : ℕ) → owns q number w.nodes ≡ false
   named : is_named number rows ≡ true
 
 of_rows : (m : ℕ) (w : World) (rows : List Row) → GoApart w rows → is_in m (rows_cells w.spots rows) ≡ true → RowCell m w rows
@@ -281,4 +281,86 @@ of_rows m w (r ∷ rows) g i = elim (in_either m (cells_at w.spots r.count r.bef
 
     first : (o : Option ℕ) → r.before ≡ o → GoesAlone w o rows → is_in m (cells_at w.spots r.count o) ≡ true → RowCell m w (r ∷ rows)
     first None e h j = absurd (in_none m j)
-    first (Some n) e h j = record { number = n; of = of_over m n r.count w.spots (spot_of n w.spots) refl j; unowned = h.0; named = here n e }
+    first (Some n) e h j = record { number = n; of = of_over m n r.count w.spots (spot_of n w.spots) refl j; unowned = λ l. (h l).0; named = here n e }
+
+module _ (w : World) (p : Paths w) where
+  -- no node is below one that nobody owns
+  no_lower : (m n : ℕ) (x y : Spot) → spot_of m w.spots ≡ Some x → spot_of n w.spots ≡ Some y → x.key ≡ y.key → x.place < y.place → ((q : ℕ) → owns q n w.nodes ≡ false) → ⊥
+  no_lower m n x y at bt k l u = let r = p.paths m n x y at bt k l in both_ways (owns r.number n w.nodes) r.owner (u r.number)
+
+  place_below : (m n : ℕ) (c : CellOf m w.spots n) → c.place < 8
+  place_below m n c = let a = p.places n c.spot c.placed in let b = c.below in omega (arith, a, b)
+
+  rows_off : (m : ℕ) (rows : List Row) → GoApart w rows → is_in m (rows_cells w.spots rows) ≡ true → is_in m (cells w.spots) ≡ false
+  rows_off m rows g i = false_by (is_in m (cells w.spots)) (λ j.
+      (let r = of_rows m w rows g i in
+      let c = r.of in
+      let y = in_cell m w.spots p.once j in
+      let h = p.places y.spot.number y.spot y.placed in
+      let e = y.is ∙ c.is in
+      let k = same_key y.spot.key c.spot.key y.spot.place c.place h (place_below m r.number c) e in
+      let l = same_place y.spot.key c.spot.key y.spot.place c.place h (place_below m r.number c) e in
+      let b = c.below in
+      no_lower y.spot.number r.number y.spot c.spot y.placed c.placed k (omega (arith, l, b)) (r.unowned (p.live r.number c.spot c.placed))))
+
+  over_apart : (count : ℕ) (o : Option Spot) → AreApart (cells_over count o)
+  over_apart count None = tt
+  over_apart count (Some x) = decide (nat_lt x.place count)
+    where
+      decide : (b : Bool) → AreApart (cond b [] (cells_from x.key (x.place - count) count))
+      decide true = tt
+      decide false = cells_apart x.key (x.place - count) count
+
+  at_apart : (count : ℕ) (before : Option ℕ) → AreApart (cells_at w.spots count before)
+  at_apart count None = tt
+  at_apart count (Some n) = over_apart count (spot_of n w.spots)
+
+  two_apart : (m n : ℕ) (rows : List Row) → GoesAlone w (Some n) rows → CellOf m w.spots n → RowCell m w rows → ⊥
+  two_apart m n rows g c r =
+      let d = r.of in
+      let e = sym c.is ∙ d.is in
+      let k = same_key c.spot.key d.spot.key c.place d.place (place_below m n c) (place_below m r.number d) e in
+      let u = g (p.live n c.spot c.placed) in
+      elim (lower c.spot.place d.spot.place) [
+        | inl l ↦ no_lower n r.number c.spot d.spot c.placed d.placed k l (r.unowned (p.live r.number d.spot d.placed))
+        | inr o ↦ elim o [
+          | inl s ↦ both_ways (is_named n rows) (subst (λ (i : ℕ). is_named i rows ≡ true) (sym (p.alone n r.number c.spot d.spot c.placed d.placed k s)) r.named) u.1
+          | inr l ↦ no_lower r.number n d.spot c.spot d.placed c.placed (sym k) l u.0
+        ]
+      ]
+
+  rows_apart : (rows : List Row) → GoApart w rows → AreApart (rows_cells w.spots rows)
+  rows_apart [] g = tt
+  rows_apart (r ∷ rows) g = apart_join (cells_at w.spots r.count r.before) (rows_cells w.spots rows) (at_apart r.count r.before) (rows_apart rows g.2) (λ m i. off r.before g.1 m i)
+    where
+      off : (o : Option ℕ) → GoesAlone w o rows → (m : ℕ) → is_in m (rows_cells w.spots rows) ≡ true → is_in m (cells_at w.spots r.count o) ≡ false
+      off None h m i = refl
+      off (Some n) h m i = false_by (is_in m (cells_at w.spots r.count (Some n))) (λ j. two_apart m n rows h (of_over m n r.count w.spots (spot_of n w.spots) refl j) (of_rows m w rows g.2 i))
+
+  cells_within : (rows : List Row) → GoApart w rows → Within (cells w.spots ++ rows_cells w.spots rows) (all_cells w.spots)
+  cells_within rows g m i = elim (in_either m (cells w.spots) (rows_cells w.spots rows) i) [
+    | inl a ↦ (let y = in_cell m w.spots p.once a in subst (λ (k : ℕ). is_in k (all_cells w.spots) ≡ true) y.is (in_all y.spot.key y.spot.place w.spots (spot_used y.spot.number y.spot y.spot.key w.spots y.placed refl) (p.places y.spot.number y.spot y.placed)))
+    | inr b ↦ (let r = of_rows m w rows g b in let c = r.of in subst (λ (k : ℕ). is_in k (all_cells w.spots) ≡ true) (sym c.is) (in_all c.spot.key c.place w.spots (spot_used r.number c.spot c.spot.key w.spots c.placed refl) (place_below m r.number c)))
+  ]
+
+  few_cells : (rows : List Row) → GoApart w rows → length w.spots + length (rows_cells w.spots rows) ≤ 8 * arenas w.spots
+  few_cells rows g =
+      let a = few (cells w.spots ++ rows_cells w.spots rows) (all_cells w.spots) (apart_join (cells w.spots) (rows_cells w.spots rows) (spots_apart w.spots (record { once = p.once; places = p.places; alone = p.alone })) (rows_apart rows g) (λ m i. rows_off m rows g i)) (cells_within rows g) in
+      let b = length-append (cells w.spots) (rows_cells w.spots rows) in
+      let c = cells_length w.spots in
+      let d = all_count w.spots in
+      omega (arith, a, b, c, d)
+    where
+      cells_length : (xs : List Spot) → length (cells xs) ≡ length xs
+      cells_length [] = refl
+      cells_length (x ∷ xs) = let h = cells_length xs in omega (arith, h)
+
+-- where rows before different roots fit into arenas, there are slots for the live nodes and for theirs
+le_of : (a b : ℕ) → nat_le a b ≡ true → a ≤ b
+le_of a b h = grind (arith, nat_tests)
+
+enough : (slots s c k a n : ℕ) → s + c ≤ 8 * a → k ≤ c + 8 * n → n + a ≤ slots / 8 → s + k ≤ slots
+enough slots s c k a n h i j = omega (arith, h, i, j)
+
+pub slots_enough : (slots : ℕ) (w : World) (rows : List Row) → Paths w → GoApart w rows → arenas_fit slots w.spots rows ≡ true → length w.spots + counts rows ≤ slots
+slots_enough slots w rows p g h = enough slots (length w.spots) (length (rows_cells w.spots rows)) (counts rows) (arenas w.spots) (sum (map (needs w.spots) rows)) (few_cells w p rows g) (rows_count w rows g) (le_of (sum (map (needs w.spots) rows) + arenas w.spots) (slots / 8) h)
