@@ -13,3 +13,4 @@ pub mod Calls
 pub mod Paths
 pub mod Worked
 pub mod Rows
+pub mod Alike

@@ -39,7 +39,7 @@ pub names_laid : (l1 l2 : List ℕ) (names : List Named) (w : World) → (NamesA
 names_laid l1 l2 names w apart roots g = laid_roots l1 l2 w (record w { names = names }) refl refl refl refl apart (λ a m. let r = roots a m in let b = roots_names m names w in omega (arith, r, b)) g
 
 -- names that are left are apart, and have no more roots
-left_apart : (name : ℕ) (names : List Named) → NamesApart names → NamesApart (without_name name names)
+pub left_apart : (name : ℕ) (names : List Named) → NamesApart names → NamesApart (without_name name names)
 left_apart name names a c = let t = without_times c name names in let b = a c in less (name == c) (times c (name_numbers (without_name name names))) (times c (name_numbers names)) t b
   where
     less : (b : Bool) (a t : ℕ) → a ≡ cond b 0 t → t ≤ 1 → a ≤ 1

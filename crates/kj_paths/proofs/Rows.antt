@@ -1,6 +1,6 @@
 -- Where arenas are enough there are slots enough.
-use Rattle.std.proofs.Common.{zero, suc, ◌≡◌, ◌⊎◌, inl, inr, ℕ, ◌+◌, ◌-◌, ◌*◌, ◌/◌, ◌≤◌, ◌<◌, List, [], ◌∷◌, ◌++◌, Bool, true, false, cond, Option, None, Some, arith, refl, sym, ap, ◌∙◌, subst, length, length-append, ◌==◌, ◌||◌}
-use Rattle.std.specs.Prelude.{nat_eq, nat_lt, nat_le, map, find, sum}
+use Rattle.std.proofs.Common.{zero, suc, ◌≡◌, ◌⊎◌, inl, inr, ℕ, ◌+◌, ◌-◌, ◌*◌, ◌/◌, ◌≤◌, ◌<◌, List, [], ◌∷◌, ◌++◌, Bool, true, false, cond, Option, None, Some, arith, refl, sym, ap, ◌∙◌, subst, length, length-append, ◌==◌}
+use Rattle.std.specs.Prelude.{nat_eq, nat_lt, nat_le, map, sum}
 use Rattle.std.proofs.lemmas.Bool.{false≢true}
 use Rattle.std.proofs.lemmas.Bool.Decides.{nat_tests}
 use Rattle.std.proofs.lemmas.List.Sums.{sum-map, sum_by-cons}
@@ -9,7 +9,6 @@ use Rattle.kj_base.specs.Store.{is_named}
 use Rattle.kj_model.specs.Nodes.{is_in}
 use Rattle.kj_model.specs.World.{World}
 use Rattle.kj_model.specs.Trees.{AreApart}
-use Rattle.kj_model.specs.Falling.{AreDisjoint}
 use Rattle.kj_model.specs.Framed.{times}
 use Rattle.kj_model.proofs.Members.{Within, in_either, in_left, in_right, in_none}
 use Rattle.kj_model.proofs.Once.{both_ways, false_by, apart_join}
@@ -188,12 +187,12 @@ spots_apart : (xs : List Spot) → Apart xs → AreApart (cells xs)
 spots_apart [] a = tt
 spots_apart (x ∷ xs) a = (
   false_by (is_in (cell x) (cells xs)) (λ i.
-  (let r = in_cell (cell x) xs (once_less x xs a.once) i in
-  let d = not_first x xs r.spot.number a.once r.listed in
-  let at = skip_first x xs r.spot.number d ∙ r.placed in
-  let p = a.places x.number x (at_first x xs) in
-  let q = a.places r.spot.number r.spot at in
-  both_ways (nat_eq x.number r.spot.number) (number_same x.number r.spot.number (a.alone x.number r.spot.number x r.spot (at_first x xs) at (same_key x.key r.spot.key x.place r.spot.place p q (sym r.is)) (same_place x.key r.spot.key x.place r.spot.place p q (sym r.is)))) d)),
+      (let r = in_cell (cell x) xs (once_less x xs a.once) i in
+      let d = not_first x xs r.spot.number a.once r.listed in
+      let at = skip_first x xs r.spot.number d ∙ r.placed in
+      let p = a.places x.number x (at_first x xs) in
+      let q = a.places r.spot.number r.spot at in
+      both_ways (nat_eq x.number r.spot.number) (number_same x.number r.spot.number (a.alone x.number r.spot.number x r.spot (at_first x xs) at (same_key x.key r.spot.key x.place r.spot.place p q (sym r.is)) (same_place x.key r.spot.key x.place r.spot.place p q (sym r.is)))) d)),
   spots_apart xs (apart_less x xs a),
 )
 

@@ -1,3 +1,3 @@
 pub mod Paths
-pub mod Worked
 pub mod Rows
+pub mod Worked

@@ -1,19 +1,17 @@
 -- Worked calls: a path of six nodes in one arena, whose Chain gives its place to a promise with a path of its own.
-use Rattle.std.specs.Prelude.{ℕ, List, [], ◌∷◌, None, Some, ◌&&◌}
+use Rattle.std.specs.Prelude.{ℕ, List, [], ◌∷◌, None, Some}
 use Rattle.kj_base.specs.Commands.{Later, Then, Chain, Detach, Ask, Drop}
-use Rattle.kj_base.specs.Places.{Spot, table_fits, arenas_fit}
+use Rattle.kj_base.specs.Places.{Spot}
 use Rattle.kj_base.specs.declared.numbers.Limits.{Limits}
 use Rattle.kj_model.specs.World.{Setting}
 use Rattle.kj_model.specs.Calls.{Call, CallApply, CallTurn, CallTakeAsk, CallTakeAbandoned}
 use Rattle.kj_model.specs.Log.{scripted}
 use Rattle.kj_model.specs.Scripts.{body, promised}
+use Rattle.kj_paths.specs.Rows.{counted_fit, over_store}
 
 -- arenas, with a slot for each node; step 1 gives a promise of two nodes, and each other step passes its input on
 abbrev pub worked_setting : Setting
-worked_setting = record {
-  fits = λ slots spots rows. arenas_fit slots spots rows && table_fits slots spots rows;
-  answer = scripted (body 1 (Later 10 ∷ Then 11 10 None None ∷ []) (promised 11) ∷ []);
-}
+worked_setting = over_store counted_fit (scripted (body 1 (Later 10 ∷ Then 11 10 None None ∷ []) (promised 11) ∷ []))
 
 abbrev pub worked_limits : Limits
 worked_limits = record { slots = 24; names = 8 }

@@ -1,11 +1,18 @@
 //! Laws of paths.
+ghost use Rattle.kj_base.specs.Commands.{Action, Command};
+ghost use Rattle.kj_base.specs.Places.{Row, arenas_fit, counts};
+ghost use Rattle.kj_base.specs.Record.{Item};
 ghost use Rattle.kj_base.specs.declared.numbers.Limits.{Limits};
+ghost use Rattle.kj_model.specs.Apply.{apply, rows};
 ghost use Rattle.kj_model.specs.Calls.{Call, calls, close};
-ghost use Rattle.kj_model.specs.World.{Setting, World, new_state};
+ghost use Rattle.kj_model.specs.Uses.{first_failing, is_unknown, is_wrong, uses_of};
+ghost use Rattle.kj_model.specs.World.{Setting, State, World, new_state};
 ghost use Rattle.kj_ownership.specs.Fits.{Fits};
+ghost use Rattle.kj_ownership.specs.Standing.{Owned};
 ghost use Rattle.kj_paths.specs.Paths.{AreOpen, LivesIn, Paths, is_used};
+ghost use Rattle.kj_paths.specs.Rows.{GoApart, counted_fit, over_store};
 ghost use Rattle.kj_paths.specs.Worked.{worked_builds, worked_limits, worked_path, worked_paths, worked_setting, worked_turn};
-ghost use Rattle.std.specs.Prelude.{false, true, ℕ, List, ◌++◌, ◌≡◌};
+ghost use Rattle.std.specs.Prelude.{[], Bool, None, false, length, true, ℕ, List, Option, ◌++◌, ◌+◌, ◌≡◌, ◌≤◌};
 
 /// After each list of calls from a new loop, and once the loop is closed after it, each live node
 /// has its arena and place, and the live nodes of each arena are one path, each but the first owned
@@ -30,6 +37,22 @@ pub fn free_arenas_have_no_live_node()
     ensures closed { (setting : Setting) (limits : Limits) (cs : List Call)
         → Fits setting → AreOpen setting cs (new_state limits) → (key : ℕ)
         → is_used key (close (calls setting cs (new_state limits)).0).world.spots ≡ false }
+{}
+
+/// Where rows before different roots fit into arenas, there are slots for the live nodes and for
+/// theirs. The rows of a command that knows its names are such; so a store of arenas refuses each
+/// command alike whether or not it counts the slots too.
+pub fn arenas_have_slots_enough()
+    ensures slots { (slots : ℕ) (w : World) (more : List Row) → Paths w → GoApart w more
+        → arenas_fit slots w.spots more ≡ true → length w.spots + counts more ≤ slots }
+    ensures commands { (c : Command) (s : State) → Owned s
+        → first_failing (is_unknown s.world) [] (uses_of c) ≡ None
+        → first_failing (is_wrong s.world) [] (uses_of c) ≡ None
+        → GoApart s.world (rows c s.world) }
+    ensures alike { (answer : List Item → ℕ → Option Action) (inside : Bool) (c : Command)
+        (s : State) → Owned s → Paths s.world
+        → apply (over_store arenas_fit answer) inside c s
+        ≡ apply (over_store counted_fit answer) inside c s }
 {}
 
 /// What is asked of calls can be met, with takings among them. In a worked case a promise of two
