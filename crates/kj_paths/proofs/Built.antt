@@ -1,6 +1,6 @@
 -- A node is built.
-use Rattle.std.proofs.Common.{◌≡◌, ◌⊎◌, inl, inr, ℕ, ◌+◌, ◌-◌, ◌≤◌, ◌<◌, List, [], ◌∷◌, ◌++◌, Bool, true, false, Option, None, Some, arith, refl, sym, ap, ◌∙◌, subst}
-use Rattle.std.specs.Prelude.{nat_eq, nat_lt, is_some}
+use Rattle.std.proofs.Common.{◌≡◌, ◌⊎◌, inl, inr, ℕ, ◌+◌, ◌-◌, ◌≤◌, ◌<◌, List, [], ◌∷◌, ◌++◌, Bool, true, false, Option, None, Some, arith, refl, sym, ap, ◌∙◌, subst, cond}
+use Rattle.std.specs.Prelude.{nat_eq, nat_lt, is_some, map}
 use Rattle.std.proofs.lemmas.Bool.Decides.{nat_tests}
 use Rattle.kj_base.specs.Places.{Spot, spot_of, spot_anew, spot_before}
 use Rattle.kj_model.specs.Nodes.{Form, Hub, form_at, parts_of, parts_found, is_in}
@@ -13,7 +13,9 @@ use Rattle.kj_model.proofs.Counts.{times_app}
 use Rattle.kj_ownership.specs.Owners.{is_live, owns, is_hub_form}
 use Rattle.kj_ownership.specs.Standing.{one_if}
 use Rattle.kj_ownership.proofs.Moves.{grown, app_other, app_new, root_out}
-use Rattle.kj_ownership.proofs.Stays.{in_times}
+use Rattle.kj_ownership.proofs.Stays.{in_times, out_times}
+use Rattle.kj_model.proofs.Members.{in_none}
+use Rattle.std.proofs.lemmas.List.{map-append}
 use Rattle.kj_paths.proofs.Laid.{stands, IsBefore, Laid}
 
 -- the spot of a new node: in a new arena, or one place before a node that it owns
@@ -85,6 +87,43 @@ spot_app_new x (y ∷ ys) h = decide (nat_eq y.number x.number) refl (λ k. spot
     decide : (b : Bool) → nat_eq y.number x.number ≡ b → (((z : Spot) → spot_of x.number ys ≡ Some z → ⊥) → spot_of x.number (ys ++ x ∷ []) ≡ Some x) → spot_of x.number ((y ∷ ys) ++ x ∷ []) ≡ Some x
     decide true e ih = absurd (h y (here e))
     decide false e ih = skip_app e ∙ ih (λ z at. h z (skip e ∙ at))
+
+-- one more spot, of a number that has none
+one_most : (b : Bool) → cond b 1 0 ≤ 1
+one_most true = omega arith
+one_most false = omega arith
+
+once_more : (n : ℕ) (x : Spot) (xs : List Spot) → times n (map (λ (y : Spot). y.number) xs) ≤ 1 → (n ≡ x.number → times n (map (λ (y : Spot). y.number) xs) ≡ 0) → times n (map (λ (y : Spot). y.number) (xs ++ x ∷ [])) ≤ 1
+once_more n x xs h none =
+    let a : times n (map (λ (y : Spot). y.number) (xs ++ x ∷ [])) ≡ times n (map (λ (y : Spot). y.number) xs) + times n (x.number ∷ []) = ap (times n) (map-append (λ (y : Spot). y.number) xs (x ∷ [])) ∙ times_app n (map (λ (y : Spot). y.number) xs) (x.number ∷ []) in
+    by_number (nat_eq x.number n) refl a
+  where
+    none_here : nat_eq x.number n ≡ false → times n (x.number ∷ []) ≡ 0
+    none_here e = grind (arith, nat_tests)
+
+    by_number : (b : Bool) → nat_eq x.number n ≡ b → times n (map (λ (y : Spot). y.number) (xs ++ x ∷ [])) ≡ times n (map (λ (y : Spot). y.number) xs) + times n (x.number ∷ []) → times n (map (λ (y : Spot). y.number) (xs ++ x ∷ [])) ≤ 1
+    by_number true e a = let z = none (same_number x.number n e) in let o = one_most (nat_eq x.number n) in omega (arith, a, z, o)
+    by_number false e a = let z = none_here e in omega (arith, a, z, h)
+
+number_spot : (n : ℕ) (xs : List Spot) → is_in n (map (λ (x : Spot). x.number) xs) ≡ true → (x : Spot) × (spot_of n xs ≡ Some x)
+number_spot n [] i = absurd (in_none n i)
+number_spot n (y ∷ ys) i = decide (nat_eq y.number n) refl (λ j. number_spot n ys j)
+  where
+    here : nat_eq y.number n ≡ true → spot_of n (y ∷ ys) ≡ Some y
+    here e = grind (arith, nat_tests)
+
+    skip : nat_eq y.number n ≡ false → spot_of n (y ∷ ys) ≡ spot_of n ys
+    skip e = grind (arith, nat_tests)
+
+    rest : nat_eq y.number n ≡ false → is_in n (map (λ (x : Spot). x.number) ys) ≡ true
+    rest e = grind (arith, nat_tests)
+
+    decide : (b : Bool) → nat_eq y.number n ≡ b → (is_in n (map (λ (x : Spot). x.number) ys) ≡ true → (x : Spot) × (spot_of n ys ≡ Some x)) → (x : Spot) × (spot_of n (y ∷ ys) ≡ Some x)
+    decide true e ih = (y, here e)
+    decide false e ih = let r = ih (rest e) in (r.0, skip e ∙ r.1)
+
+no_number : (n : ℕ) (xs : List Spot) → ((x : Spot) → spot_of n xs ≡ Some x → ⊥) → times n (map (λ (x : Spot). x.number) xs) ≡ 0
+no_number n xs h = out_times n (map (λ (x : Spot). x.number) xs) (false_by (is_in n (map (λ (x : Spot). x.number) xs)) (λ i. (let r = number_spot n xs i in h r.0 r.1)))
 
 -- where the new node stands
 root_here : (n m : ℕ) (o : Option Form) → m ≡ n → times m (root_out n o) + one_if (is_hub_form o) ≡ 1
@@ -195,6 +234,7 @@ module _ (form : Form) (rest : List ℕ) (x : Spot) (key : ℕ) (w : World) (g :
     ];
     fresh_live = λ m h l. g.fresh_live m (omega (arith, h)) (sym (ap is_some (at_other m (differs w.next m (omega (arith, h))))) ∙ l);
     fresh_spot = λ m y h at. g.fresh_spot m y (omega (arith, h)) (sym (spot_other m (differs w.next m (omega (arith, h)))) ∙ at);
+    apart = λ n. once_more n x w.spots (g.apart n) (λ e. no_number n w.spots (λ y at. g.fresh_spot n y (let k = number in omega (arith, e, k)) at));
     place = λ m y at. elim (spot_cases m y at) [ inl a ↦ subst (λ (z : Spot). z.place < 8) (sym a.1) place_next | inr b ↦ g.place m y b.1 ];
     key = λ m y at. elim (spot_cases m y at) [ inl a ↦ subst (λ (z : Spot). z.key < key) (sym a.1) key_next | inr b ↦ key_more y (g.key m y b.1) ];
     alone = λ m n y z at bt k p. alone_at m n y z k p (spot_cases m y at) (spot_cases n z bt);

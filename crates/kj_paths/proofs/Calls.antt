@@ -26,7 +26,7 @@ use Rattle.kj_paths.proofs.Values.{freed_laid, value_laid}
 use Rattle.kj_paths.proofs.Turns.{turn_laid, run_laid}
 
 -- the promise is held
-held_laid : (name root : ℕ) (w : World) → held_at name w.names ≡ Some (Promise root) → Laid [] w → Laid [] (held_awaited name root w)
+pub held_laid : (name root : ℕ) (w : World) → held_at name w.names ≡ Some (Promise root) → Laid [] w → Laid [] (held_awaited name root w)
 held_laid name root w at g =
     let v = unnamed name w in
     let a : Option Awaited = Some (record { name = name; root = root }) in

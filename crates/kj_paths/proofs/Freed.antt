@@ -1,5 +1,5 @@
 -- A tree is freed.
-use Rattle.std.proofs.Common.{◌≡◌, ℕ, ◌≤◌, List, [], ◌∷◌, Bool, true, false, not, cond, Option, None, Some, arith, refl, sym, ap, ◌∙◌}
+use Rattle.std.proofs.Common.{◌≡◌, ℕ, ◌≤◌, List, [], ◌∷◌, Bool, true, false, not, cond, Option, None, Some, arith, refl, sym, ap, ◌∙◌, subst}
 use Rattle.kj_base.specs.Places.{Spot, spot_of}
 use Rattle.kj_model.specs.Nodes.{Form, form_at, is_in}
 use Rattle.kj_model.specs.World.{State, depth_of}
@@ -11,7 +11,7 @@ use Rattle.kj_model.proofs.Falling.{node_frees}
 use Rattle.kj_ownership.specs.Owners.{is_hub_form}
 use Rattle.kj_ownership.specs.Standing.{one_if}
 use Rattle.kj_ownership.proofs.Stays.{hub_stays, live_before, owns_before, roots_stay}
-use Rattle.kj_paths.proofs.Laid.{Laid, Shrinks, laid_shrinks, spot_left, no_spot}
+use Rattle.kj_paths.proofs.Laid.{Once, spots_once, Laid, Shrinks, laid_shrinks, spot_left, no_spot}
 
 -- spots over a free
 spot_kept : (ns : List ℕ) (s t : State) (m : ℕ) → FreedBy ns s t → is_in m ns ≡ false → spot_of m t.world.spots ≡ spot_of m s.world.spots
@@ -40,6 +40,7 @@ shrinks_freed ns loose s t f = record {
   owner_spot = λ q m o. spot_kept ns s t q f (owns_before ns s t q m f o).0;
   live = λ m l. (live_before ns s t m f l).1;
   spots = λ m x at. spot_before ns s t m x f at;
+  apart = λ a. subst Once (sym f.frame.spots) (spots_once (λ n. not (is_in n ns)) s.world.spots a);
   next = f.frame.same.next;
   next_key = f.frame.same.next_key;
 }

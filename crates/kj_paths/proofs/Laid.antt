@@ -1,6 +1,6 @@
 -- What a loop keeps of where its nodes lie, whatever else holds.
 use Rattle.std.proofs.Common.{◌≡◌, ℕ, ◌+◌, ◌≤◌, ◌<◌, List, [], ◌∷◌, Bool, true, false, cond, Option, None, Some, arith, refl, sym, ap, ◌∙◌, subst}
-use Rattle.std.specs.Prelude.{filter}
+use Rattle.std.specs.Prelude.{filter, map}
 use Rattle.std.proofs.lemmas.Bool.{false≢true}
 use Rattle.std.proofs.lemmas.Bool.Decides.{nat_tests}
 use Rattle.kj_base.specs.Places.{Spot, spot_of}
@@ -23,6 +23,10 @@ pub record IsBefore (q : ℕ) (y : Spot) (w : World) : Type 0 where
   pub key : spot.key ≡ y.key
   pub place : spot.place + 1 ≡ y.place
 
+-- no number has two spots
+abbrev pub Once : List Spot → Type 0
+Once xs = (n : ℕ) → times n (map (λ (x : Spot). x.number) xs) ≤ 1
+
 -- no node stands twice where none owns it, and what stands so has no owner; numbers from the next on stand nowhere; and
 -- where a node isn't the first of its arena, it doesn't stand so, and who owns it is one place before it
 pub record Laid (loose : List ℕ) (w : World) : Type 0 where
@@ -33,6 +37,7 @@ pub record Laid (loose : List ℕ) (w : World) : Type 0 where
   pub fresh_owner : (m q : ℕ) → w.next ≤ m → owns q m w.nodes ≡ true → ⊥
   pub fresh_live : (m : ℕ) → w.next ≤ m → is_live m w.nodes ≡ true → ⊥
   pub fresh_spot : (m : ℕ) (x : Spot) → w.next ≤ m → spot_of m w.spots ≡ Some x → ⊥
+  pub apart : Once w.spots
   pub place : (m : ℕ) (x : Spot) → spot_of m w.spots ≡ Some x → x.place < 8
   pub key : (m : ℕ) (x : Spot) → spot_of m w.spots ≡ Some x → x.key < w.next_key
   pub alone : (m n : ℕ) (x y : Spot) → spot_of m w.spots ≡ Some x → spot_of n w.spots ≡ Some y → x.key ≡ y.key → x.place ≡ y.place → m ≡ n
@@ -47,6 +52,7 @@ pub record Shrinks (l1 l2 : List ℕ) (w v : World) : Type 0 where
   pub owner_spot : (q m : ℕ) → owns q m v.nodes ≡ true → spot_of q v.spots ≡ spot_of q w.spots
   pub live : (m : ℕ) → is_live m v.nodes ≡ true → is_live m w.nodes ≡ true
   pub spots : (m : ℕ) (x : Spot) → spot_of m v.spots ≡ Some x → spot_of m w.spots ≡ Some x
+  pub apart : Once w.spots → Once v.spots
   pub next : v.next ≡ w.next
   pub next_key : v.next_key ≡ w.next_key
 
@@ -59,6 +65,7 @@ laid_shrinks l1 l2 w v s g = record {
   fresh_owner = λ m q h o. g.fresh_owner m q (subst (λ (k : ℕ). k ≤ m) s.next h) (s.owners q m o);
   fresh_live = λ m h l. g.fresh_live m (subst (λ (k : ℕ). k ≤ m) s.next h) (s.live m l);
   fresh_spot = λ m x h at. g.fresh_spot m x (subst (λ (k : ℕ). k ≤ m) s.next h) (s.spots m x at);
+  apart = s.apart g.apart;
   place = λ m x at. g.place m x (s.spots m x at);
   key = λ m x at. subst (λ (k : ℕ). x.key < k) (sym s.next_key) (g.key m x (s.spots m x at));
   alone = λ m n x y at bt. g.alone m n x y (s.spots m x at) (s.spots n y bt);
@@ -75,6 +82,7 @@ laid_roots l1 l2 w v nodes spots next key names roots = laid_shrinks l1 l2 w v (
   owner_spot = λ q m o. ap (spot_of q) spots;
   live = λ m l. sym (ap (is_live m) nodes) ∙ l;
   spots = λ m x at. sym (ap (spot_of m) spots) ∙ at;
+  apart = λ a. subst Once (sym spots) a;
   next = next;
   next_key = key;
 })
@@ -109,9 +117,22 @@ new_laid limits = record {
   fresh_owner = λ m q h o. false≢true o;
   fresh_live = λ m h o. false≢true o;
   fresh_spot = λ m x h at. no_spot x at;
+  apart = λ n. omega arith;
   place = λ m x at. absurd (no_spot x at);
   key = λ m x at. absurd (no_spot x at);
   alone = λ m n x y at bt. absurd (no_spot x at);
   root = λ m n x y at bt. absurd (no_spot x at);
   owner = λ m n x y q at bt. absurd (no_spot x at);
 }
+
+-- spots that are left are apart
+once_left : (p : ℕ → Bool) (n : ℕ) (xs : List Spot) → times n (map (λ (x : Spot). x.number) (filter (λ (y : Spot). p y.number) xs)) ≤ times n (map (λ (x : Spot). x.number) xs)
+once_left p n [] = omega arith
+once_left p n (x ∷ xs) = more (p x.number) (once_left p n xs)
+  where
+    more : (b : Bool) → times n (map (λ (y : Spot). y.number) (filter (λ (y : Spot). p y.number) xs)) ≤ times n (map (λ (y : Spot). y.number) xs) → times n (map (λ (y : Spot). y.number) (cond b (x ∷ filter (λ (y : Spot). p y.number) xs) (filter (λ (y : Spot). p y.number) xs))) ≤ times n (map (λ (y : Spot). y.number) (x ∷ xs))
+    more true h = omega (arith, h)
+    more false h = omega (arith, h)
+
+pub spots_once : (p : ℕ → Bool) (xs : List Spot) → Once xs → Once (filter (λ (y : Spot). p y.number) xs)
+spots_once p xs a n = let k = once_left p n xs in let h = a n in omega (arith, k, h)

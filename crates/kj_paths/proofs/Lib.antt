@@ -14,3 +14,4 @@ pub mod Paths
 pub mod Worked
 pub mod Rows
 pub mod Alike
+pub mod Same

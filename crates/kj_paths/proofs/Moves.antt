@@ -140,6 +140,7 @@ put_laid n form loose w less g = laid_shrinks loose loose w (put n form w) (reco
   owner_spot = λ q m o. refl;
   live = λ m l. live m (nat_eq n m) refl l;
   spots = λ m x at. at;
+  apart = λ a. a;
   next = refl;
   next_key = refl;
 }) g

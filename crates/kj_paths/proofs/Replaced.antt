@@ -19,7 +19,7 @@ use Rattle.kj_ownership.specs.Standing.{one_if}
 use Rattle.kj_ownership.proofs.Stays.{in_times, roots_app}
 use Rattle.kj_ownership.proofs.Reached.{listened_only}
 use Rattle.kj_ownership.proofs.Replaced.{some_renamed, form_renamed, live_renamed}
-use Rattle.kj_paths.proofs.Laid.{stands, Laid, IsBefore, laid_shrinks, laid_roots, spot_left, no_spot}
+use Rattle.kj_paths.proofs.Laid.{spots_once, stands, Laid, IsBefore, laid_shrinks, laid_roots, spot_left, no_spot}
 
 -- a node goes
 swap : (m n : ℕ) → nat_eq n m ≡ false → nat_eq m n ≡ false
@@ -73,6 +73,7 @@ gone_laid n loose w g = laid_shrinks loose loose w (gone_world n w) (record {
   owner_spot = λ q m o. gone_spot n q w (gone_owner n q m w o).0;
   live = λ m l. gone_live n m w l;
   spots = λ m x at. (gone_before n m x w at).1;
+  apart = spots_once (λ k. not (k == n)) w.spots;
   next = refl;
   next_key = refl;
 }) g
@@ -214,6 +215,7 @@ module _ (n root : ℕ) (w : World) (g : Laid (root ∷ []) w) where
     fresh_owner = λ m q h o. (let p = gone_owner n q m (replaced n root w) o in elim (owner_before n root q m w p.1) [ inl a ↦ g.fresh_owner m q h a | inr b ↦ not_fresh m h b.0 ]);
     fresh_live = λ m h l. g.fresh_live m h (sym (live_renamed n root (form_at m w.nodes)) ∙ sym (ap is_some (form_renamed n root m w.nodes)) ∙ gone_live n m (replaced n root w) l);
     fresh_spot = λ m x h at. g.fresh_spot m x h (gone_before n m x (replaced n root w) at).1;
+    apart = spots_once (λ k. not (k == n)) w.spots g.apart;
     place = λ m x at. g.place m x (gone_before n m x (replaced n root w) at).1;
     key = λ m x at. g.key m x (gone_before n m x (replaced n root w) at).1;
     alone = λ m k x y at bt. g.alone m k x y (gone_before n m x (replaced n root w) at).1 (gone_before n k y (replaced n root w) bt).1;

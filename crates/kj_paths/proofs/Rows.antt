@@ -12,11 +12,11 @@ use Rattle.kj_model.specs.Trees.{AreApart}
 use Rattle.kj_model.specs.Framed.{times}
 use Rattle.kj_model.proofs.Members.{Within, in_either, in_left, in_right, in_none}
 use Rattle.kj_model.proofs.Once.{both_ways, false_by, apart_join}
-use Rattle.kj_ownership.specs.Owners.{is_live, owns}
 use Rattle.kj_ownership.proofs.Flat.{few}
 use Rattle.kj_ownership.proofs.Stays.{in_times}
 use Rattle.kj_paths.specs.Paths.{Paths, is_used}
-use Rattle.kj_paths.specs.Rows.{GoesAlone, GoApart}
+use Rattle.kj_paths.specs.Rows.{IsFirst, GoesAlone, GoApart}
+use Rattle.kj_paths.proofs.Laid.{Once}
 use Rattle.kj_paths.proofs.Built.{lower}
 use Rattle.kj_paths.proofs.Paths.{spot_number, spot_used}
 
@@ -133,9 +133,6 @@ record InCell (m : ℕ) (xs : List Spot) : Type 0 where
   is : cell spot ≡ m
   listed : is_in spot.number (map (λ (x : Spot). x.number) xs) ≡ true
 
-abbrev Once : List Spot → Type 0
-Once xs = (n : ℕ) → times n (map (λ (x : Spot). x.number) xs) ≤ 1
-
 once_less : (x : Spot) (xs : List Spot) → Once (x ∷ xs) → Once xs
 once_less x xs a n = let k = a n in omega (arith, k)
 
@@ -162,10 +159,10 @@ in_cell m (x ∷ xs) a i = elim (here_or_later m (cell x) (cells xs) i) [
 ]
 
 -- what is asked of spots
-record Apart (xs : List Spot) : Type 0 where
-  once : Once xs
-  places : (n : ℕ) (x : Spot) → spot_of n xs ≡ Some x → x.place < 8
-  alone : (m n : ℕ) (x y : Spot) → spot_of m xs ≡ Some x → spot_of n xs ≡ Some y → x.key ≡ y.key → x.place ≡ y.place → m ≡ n
+pub record Apart (xs : List Spot) : Type 0 where
+  pub once : Once xs
+  pub places : (n : ℕ) (x : Spot) → spot_of n xs ≡ Some x → x.place < 8
+  pub alone : (m n : ℕ) (x y : Spot) → spot_of m xs ≡ Some x → spot_of n xs ≡ Some y → x.key ≡ y.key → x.place ≡ y.place → m ≡ n
 
 there : (n : ℕ) (x : Spot) (xs : List Spot) → spot_of n xs ≡ Some x → is_in n (map (λ (y : Spot). y.number) xs) ≡ true
 there n x xs at = spot_number n x xs at
@@ -262,14 +259,14 @@ of_over m n count spots (Some x) at i = decide (nat_lt x.place count) refl i
 record RowCell (m : ℕ) (w : World) (rows : List Row) : Type 0 where
   number : ℕ
   of : CellOf m w.spots number
-  unowned : is_live number w.nodes ≡ true → (q : ℕ) → owns q number w.nodes ≡ false
+  first : (x : Spot) → spot_of number w.spots ≡ Some x → IsFirst x w
   named : is_named number rows ≡ true
 
 of_rows : (m : ℕ) (w : World) (rows : List Row) → GoApart w rows → is_in m (rows_cells w.spots rows) ≡ true → RowCell m w rows
 of_rows m w [] g i = absurd (in_none m i)
 of_rows m w (r ∷ rows) g i = elim (in_either m (cells_at w.spots r.count r.before) (rows_cells w.spots rows) i) [
   | inl a ↦ first r.before refl g.1 a
-  | inr b ↦ (let c = of_rows m w rows g.2 b in record { number = c.number; of = c.of; unowned = c.unowned; named = more c.number c.named })
+  | inr b ↦ (let c = of_rows m w rows g.2 b in record { number = c.number; of = c.of; first = c.first; named = more c.number c.named })
 ]
   where
     more : (n : ℕ) → is_named n rows ≡ true → is_named n (r ∷ rows) ≡ true
@@ -280,13 +277,9 @@ of_rows m w (r ∷ rows) g i = elim (in_either m (cells_at w.spots r.count r.bef
 
     first : (o : Option ℕ) → r.before ≡ o → GoesAlone w o rows → is_in m (cells_at w.spots r.count o) ≡ true → RowCell m w (r ∷ rows)
     first None e h j = absurd (in_none m j)
-    first (Some n) e h j = record { number = n; of = of_over m n r.count w.spots (spot_of n w.spots) refl j; unowned = λ l. (h l).0; named = here n e }
+    first (Some n) e h j = record { number = n; of = of_over m n r.count w.spots (spot_of n w.spots) refl j; first = λ x at. (h x at).0; named = here n e }
 
-module _ (w : World) (p : Paths w) where
-  -- no node is below one that nobody owns
-  no_lower : (m n : ℕ) (x y : Spot) → spot_of m w.spots ≡ Some x → spot_of n w.spots ≡ Some y → x.key ≡ y.key → x.place < y.place → ((q : ℕ) → owns q n w.nodes ≡ false) → ⊥
-  no_lower m n x y at bt k l u = let r = p.paths m n x y at bt k l in both_ways (owns r.number n w.nodes) r.owner (u r.number)
-
+module _ (w : World) (p : Apart w.spots) where
   place_below : (m n : ℕ) (c : CellOf m w.spots n) → c.place < 8
   place_below m n c = let a = p.places n c.spot c.placed in let b = c.below in omega (arith, a, b)
 
@@ -300,7 +293,7 @@ module _ (w : World) (p : Paths w) where
       let k = same_key y.spot.key c.spot.key y.spot.place c.place h (place_below m r.number c) e in
       let l = same_place y.spot.key c.spot.key y.spot.place c.place h (place_below m r.number c) e in
       let b = c.below in
-      no_lower y.spot.number r.number y.spot c.spot y.placed c.placed k (omega (arith, l, b)) (r.unowned (p.live r.number c.spot c.placed))))
+      r.first c.spot c.placed y.spot.number y.spot y.placed k (omega (arith, l, b))))
 
   over_apart : (count : ℕ) (o : Option Spot) → AreApart (cells_over count o)
   over_apart count None = tt
@@ -319,12 +312,12 @@ module _ (w : World) (p : Paths w) where
       let d = r.of in
       let e = sym c.is ∙ d.is in
       let k = same_key c.spot.key d.spot.key c.place d.place (place_below m n c) (place_below m r.number d) e in
-      let u = g (p.live n c.spot c.placed) in
+      let u = g c.spot c.placed in
       elim (lower c.spot.place d.spot.place) [
-        | inl l ↦ no_lower n r.number c.spot d.spot c.placed d.placed k l (r.unowned (p.live r.number d.spot d.placed))
+        | inl l ↦ r.first d.spot d.placed n c.spot c.placed k l
         | inr o ↦ elim o [
           | inl s ↦ both_ways (is_named n rows) (subst (λ (i : ℕ). is_named i rows ≡ true) (sym (p.alone n r.number c.spot d.spot c.placed d.placed k s)) r.named) u.1
-          | inr l ↦ no_lower r.number n d.spot c.spot d.placed c.placed (sym k) l u.0
+          | inr l ↦ u.0 r.number d.spot d.placed (sym k) l
         ]
       ]
 
@@ -344,7 +337,7 @@ module _ (w : World) (p : Paths w) where
 
   few_cells : (rows : List Row) → GoApart w rows → length w.spots + length (rows_cells w.spots rows) ≤ 8 * arenas w.spots
   few_cells rows g =
-      let a = few (cells w.spots ++ rows_cells w.spots rows) (all_cells w.spots) (apart_join (cells w.spots) (rows_cells w.spots rows) (spots_apart w.spots (record { once = p.once; places = p.places; alone = p.alone })) (rows_apart rows g) (λ m i. rows_off m rows g i)) (cells_within rows g) in
+      let a = few (cells w.spots ++ rows_cells w.spots rows) (all_cells w.spots) (apart_join (cells w.spots) (rows_cells w.spots rows) (spots_apart w.spots p) (rows_apart rows g) (λ m i. rows_off m rows g i)) (cells_within rows g) in
       let b = length-append (cells w.spots) (rows_cells w.spots rows) in
       let c = cells_length w.spots in
       let d = all_count w.spots in
@@ -361,5 +354,8 @@ le_of a b h = grind (arith, nat_tests)
 enough : (slots s c k a n : ℕ) → s + c ≤ 8 * a → k ≤ c + 8 * n → n + a ≤ slots / 8 → s + k ≤ slots
 enough slots s c k a n h i j = omega (arith, h, i, j)
 
+pub enough_apart : (slots : ℕ) (w : World) (rows : List Row) → Apart w.spots → GoApart w rows → arenas_fit slots w.spots rows ≡ true → length w.spots + counts rows ≤ slots
+enough_apart slots w rows p g h = enough slots (length w.spots) (length (rows_cells w.spots rows)) (counts rows) (arenas w.spots) (sum (map (needs w.spots) rows)) (few_cells w p rows g) (rows_count w rows g) (le_of (sum (map (needs w.spots) rows) + arenas w.spots) (slots / 8) h)
+
 pub slots_enough : (slots : ℕ) (w : World) (rows : List Row) → Paths w → GoApart w rows → arenas_fit slots w.spots rows ≡ true → length w.spots + counts rows ≤ slots
-slots_enough slots w rows p g h = enough slots (length w.spots) (length (rows_cells w.spots rows)) (counts rows) (arenas w.spots) (sum (map (needs w.spots) rows)) (few_cells w p rows g) (rows_count w rows g) (le_of (sum (map (needs w.spots) rows) + arenas w.spots) (slots / 8) h)
+slots_enough slots w rows p g h = enough_apart slots w rows (record { once = p.once; places = p.places; alone = p.alone }) g h

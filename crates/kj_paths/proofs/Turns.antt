@@ -54,16 +54,20 @@ ended_laid setting n (Broken exception) error s g = error_laid setting n (Broken
 task_clears : (t : ℕ) → Clears (Task (Some t)) (Task None) t
 task_clears t = record { parts = refl; none = refl; old_hub = refl; new_hub = refl; branch = λ h. refl; suits = empty_suits (Task (Some t)) (Task None) (record { tree = refl; link = refl; side = refl; task = refl; request = λ n. refl; ended = λ h. absurd (false≢true h) }) refl refl }
 
-valued_laid : (setting : Setting) (n t : ℕ) (o : Option Outcome) (s : State) → Owned s → Shaped s.world → s.world.firing ≡ Some n → form_at n s.world.nodes ≡ Some (Task (Some t)) → Laid [] s.world → Laid [] (task_valued setting n t o s).world
-valued_laid setting n t None s st sh firing at g = g
-valued_laid setting n t (Some o) s st sh firing at g =
+pub left_laid : (n t : ℕ) (s : State) → Owned s → Shaped s.world → s.world.firing ≡ Some n → form_at n s.world.nodes ≡ Some (Task (Some t)) → Laid [] s.world → Laid [] (set_left n (put n (Task None) (freed t s).world))
+left_laid n t s st sh firing at g =
     let c = tree_cleared s n t [] (Task (Some t)) (Task None) st sh (inl (firing, ap is_some at)) at (task_clears t) in
     let s2 = silent (put n (Task None)) (freed t s) in
     let off : is_in n s.world.left_over ≡ false = false_by (is_in n s.world.left_over) (λ i. false≢true (ap (suits OfEnded) (sym at) ∙ sh.left_over n (ap is_some firing) i)) in
     let off2 : is_in n s2.world.left_over ≡ false = ap (is_in n) c.0.same.left_over ∙ off in
     let l = set_left_is n s2 c.0.owned c.0.shaped c.2 off2 in
-    let a = bare_laid n (Task None) [] (freed t s).world refl refl (freed_laid t [] s g) in
-    ended_laid setting n o (group_error (group_of n s2.world.names)) (silent (set_left n) s2) (set_left_laid n s2 (ap is_some c.2) c.0.owned l a)
+    set_left_laid n s2 (ap is_some c.2) c.0.owned l (bare_laid n (Task None) [] (freed t s).world refl refl (freed_laid t [] s g))
+
+valued_laid : (setting : Setting) (n t : ℕ) (o : Option Outcome) (s : State) → Owned s → Shaped s.world → s.world.firing ≡ Some n → form_at n s.world.nodes ≡ Some (Task (Some t)) → Laid [] s.world → Laid [] (task_valued setting n t o s).world
+valued_laid setting n t None s st sh firing at g = g
+valued_laid setting n t (Some o) s st sh firing at g =
+    let s2 = silent (put n (Task None)) (freed t s) in
+    ended_laid setting n o (group_error (group_of n s2.world.names)) (silent (set_left n) s2) (left_laid n t s st sh firing at g)
 
 task_laid : (setting : Setting) (n t : ℕ) (s : State) → CommandsKeep setting → Owned s → Shaped s.world → s.world.firing ≡ Some n → form_at n s.world.nodes ≡ Some (Task (Some t)) → Laid [] s.world → Laid [] (task_valued setting n t (value setting t s).1 (value setting t s).0).world
 task_laid setting n t s commands st sh firing at g =
@@ -95,13 +99,13 @@ form_laid setting None n s fits st sh firing at g = g
 form_laid setting (Some _) n s fits st sh firing at g = g
 
 -- which event fires, and the queue
-firing_laid : (o : Option ℕ) (w : World) → Laid [] w → Laid [] (with_firing o w)
+pub firing_laid : (o : Option ℕ) (w : World) → Laid [] w → Laid [] (with_firing o w)
 firing_laid o w g = laid_roots [] [] w (with_firing o w) refl refl refl refl (λ a. a) (λ a m. omega arith) g
 
-rewound_laid : (w : World) → Laid [] w → Laid [] (rewound_world w)
+pub rewound_laid : (w : World) → Laid [] w → Laid [] (rewound_world w)
 rewound_laid w g = laid_roots [] [] w (rewound_world w) refl refl refl refl (λ a. a) (λ a m. omega arith) g
 
-event_laid : (w : World) → Laid [] w → Laid [] (taken_world w)
+pub event_laid : (w : World) → Laid [] w → Laid [] (taken_world w)
 event_laid w g = laid_roots [] [] w (taken_world w) refl refl refl refl (λ a. a) (λ a m. omega arith) g
 
 fire_laid : (setting : Setting) (n : ℕ) (s : State) → Fits setting → Rests s → s.world.stopped ≡ false → Laid [] s.world → Laid [] (fire setting n s).world

@@ -89,10 +89,10 @@ passed_laid setting under n None o s g = g
 passed_laid setting under n (Some step) o s g = step_laid setting under n step o s g
 
 -- a tree
-abbrev EachLaid : (ℕ → State → State × Option Outcome) → Type 0
+abbrev pub EachLaid : (ℕ → State → State × Option Outcome) → Type 0
 EachLaid f = (n : ℕ) (s : State) → Laid [] s.world → Laid [] (f n s).0.world
 
-valued_laid : (setting : Setting) (under : Bool) (n : ℕ) (v e : Option ℕ) (t : ℕ) (o : Option Outcome) (s : State) → Laid [] s.world → LaidGiven (then_valued setting under n v e t o s)
+pub valued_laid : (setting : Setting) (under : Bool) (n : ℕ) (v e : Option ℕ) (t : ℕ) (o : Option Outcome) (s : State) → Laid [] s.world → LaidGiven (then_valued setting under n v e t o s)
 valued_laid setting under n v e t None s g = g
 valued_laid setting under n v e t (Some o) s g =
     let u = freed t s in
@@ -108,7 +108,7 @@ side_valued_laid : (side t : ℕ) (o : Option Outcome) (s : State) → Laid [] s
 side_valued_laid side t None s g = g
 side_valued_laid side t (Some o) s g = let u = freed t s in bare_laid side (Side Gone) [] u.world refl refl (freed_laid t [] s g)
 
-side_laid : (f : ℕ → State → State × Option Outcome) (side : ℕ) (o : Option Form) (s : State) → EachLaid f → Laid [] s.world → Laid [] (side_of f side o s).0.world
+pub side_laid : (f : ℕ → State → State × Option Outcome) (side : ℕ) (o : Option Form) (s : State) → EachLaid f → Laid [] s.world → Laid [] (side_of f side o s).0.world
 side_laid f side (Some (Side (Fired t))) s h g = let r = f t s in side_valued_laid side t r.1 r.0 (h t s g)
 side_laid f side (Some (Side (Keeps o))) s h g = g
 side_laid f side (Some (Side (Waits t))) s h g = g
@@ -142,7 +142,7 @@ form_laid setting f n (Some (Join fast sides)) s h g = join_laid fast f sides s 
 form_laid setting f n None s h g = g
 form_laid setting f n (Some _) s h g = g
 
-value_to_laid : (setting : Setting) (k : ℕ) → EachLaid (value_to setting k)
+pub value_to_laid : (setting : Setting) (k : ℕ) → EachLaid (value_to setting k)
 unfolding value_to
 value_to_laid setting zero n s g = g
 value_to_laid setting (suc k) n s g = form_laid setting (value_to setting k) n (form_at n s.world.nodes) s (value_to_laid setting k) g

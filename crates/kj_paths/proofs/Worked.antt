@@ -1,25 +1,13 @@
 -- The worked calls.
-use Rattle.std.proofs.Common.{◌≡◌, ◌∙◌, ℕ, ◌+◌, ◌≤◌, List, [], ◌∷◌, ◌++◌, true, refl, sym, ap, length}
-use Rattle.std.specs.Prelude.{nat_le}
-use Rattle.std.proofs.lemmas.Bool.{and_parts}
-use Rattle.std.proofs.lemmas.Bool.Decides.{nat_tests}
-use Rattle.std.proofs.Common.{arith}
-use Rattle.kj_base.specs.Places.{counts, table_fits, arenas_fit}
+use Rattle.std.proofs.Common.{◌≡◌, ◌∙◌, ℕ, List, [], ◌∷◌, ◌++◌, true, refl, sym, ap}
 use Rattle.kj_base.specs.Commands.{Drop, Ask}
 use Rattle.kj_model.specs.World.{State, Named, held_at, new_state}
 use Rattle.kj_model.specs.Calls.{CallApply, CallTurn, CallTakeAsk, calls}
 use Rattle.kj_model.specs.Free.{free_to}
 use Rattle.kj_model.specs.Value.{value_to}
-use Rattle.kj_ownership.specs.Fits.{Fits}
 use Rattle.kj_ownership.specs.Kept.{is_spent}
 use Rattle.kj_paths.specs.Paths.{AreOpen}
 use Rattle.kj_paths.specs.Worked.{worked_setting, worked_limits, worked_builds, worked_turn}
-
-within : (a b : ℕ) → nat_le a b ≡ true → a ≤ b
-within a b h = grind (arith, nat_tests)
-
-pub worked_fits : Fits worked_setting
-worked_fits slots spots rows h = within (length spots + counts rows) slots (and_parts (arenas_fit slots spots rows) (table_fits slots spots rows) h).1
 
 abbrev first_cell : List ℕ → ℕ
 first_cell [] = 0

@@ -7,11 +7,12 @@ use Rattle.kj_model.specs.World.{Setting}
 use Rattle.kj_model.specs.Calls.{Call, CallApply, CallTurn, CallTakeAsk, CallTakeAbandoned}
 use Rattle.kj_model.specs.Log.{scripted}
 use Rattle.kj_model.specs.Scripts.{body, promised}
-use Rattle.kj_paths.specs.Rows.{counted_fit, over_store}
+use Rattle.kj_base.specs.Places.{arenas_fit}
+use Rattle.kj_paths.specs.Rows.{over_store}
 
--- arenas, with a slot for each node; step 1 gives a promise of two nodes, and each other step passes its input on
+-- over arenas step 1 gives a promise of two nodes, and each other step passes its input on
 abbrev pub worked_setting : Setting
-worked_setting = over_store counted_fit (scripted (body 1 (Later 10 ∷ Then 11 10 None None ∷ []) (promised 11) ∷ []))
+worked_setting = over_store arenas_fit (scripted (body 1 (Later 10 ∷ Then 11 10 None None ∷ []) (promised 11) ∷ []))
 
 abbrev pub worked_limits : Limits
 worked_limits = record { slots = 24; names = 8 }

@@ -1,18 +1,15 @@
 //! Laws of paths.
-ghost use Rattle.kj_base.specs.Commands.{Action, Command};
+ghost use Rattle.kj_base.specs.Commands.{Action};
 ghost use Rattle.kj_base.specs.Places.{Row, arenas_fit, counts};
 ghost use Rattle.kj_base.specs.Record.{Item};
 ghost use Rattle.kj_base.specs.declared.numbers.Limits.{Limits};
-ghost use Rattle.kj_model.specs.Apply.{apply, rows};
 ghost use Rattle.kj_model.specs.Calls.{Call, calls, close};
-ghost use Rattle.kj_model.specs.Uses.{first_failing, is_unknown, is_wrong, uses_of};
-ghost use Rattle.kj_model.specs.World.{Setting, State, World, new_state};
+ghost use Rattle.kj_model.specs.World.{Setting, World, new_state};
 ghost use Rattle.kj_ownership.specs.Fits.{Fits};
-ghost use Rattle.kj_ownership.specs.Standing.{Owned};
 ghost use Rattle.kj_paths.specs.Paths.{AreOpen, LivesIn, Paths, is_used};
 ghost use Rattle.kj_paths.specs.Rows.{GoApart, counted_fit, over_store};
 ghost use Rattle.kj_paths.specs.Worked.{worked_builds, worked_limits, worked_path, worked_paths, worked_setting, worked_turn};
-ghost use Rattle.std.specs.Prelude.{[], Bool, None, false, length, true, ℕ, List, Option, ◌++◌, ◌+◌, ◌≡◌, ◌≤◌};
+ghost use Rattle.std.specs.Prelude.{false, length, true, ℕ, List, Option, ◌++◌, ◌+◌, ◌≡◌, ◌≤◌};
 
 /// After each list of calls from a new loop, and once the loop is closed after it, each live node
 /// has its arena and place, and the live nodes of each arena are one path, each but the first owned
@@ -39,26 +36,33 @@ pub fn free_arenas_have_no_live_node()
         → is_used key (close (calls setting cs (new_state limits)).0).world.spots ≡ false }
 {}
 
-/// Where rows before different roots fit into arenas, there are slots for the live nodes and for
-/// theirs. The rows of a command that knows its names are such; so a store of arenas refuses each
-/// command alike whether or not it counts the slots too.
+/// Where rows before different nodes that are first in their arenas fit into arenas, there are slots
+/// for the live nodes and for theirs.
 pub fn arenas_have_slots_enough()
-    ensures slots { (slots : ℕ) (w : World) (more : List Row) → Paths w → GoApart w more
+    ensures { (slots : ℕ) (w : World) (more : List Row) → Paths w → GoApart w more
         → arenas_fit slots w.spots more ≡ true → length w.spots + counts more ≤ slots }
-    ensures commands { (c : Command) (s : State) → Owned s
-        → first_failing (is_unknown s.world) [] (uses_of c) ≡ None
-        → first_failing (is_wrong s.world) [] (uses_of c) ≡ None
-        → GoApart s.world (rows c s.world) }
-    ensures alike { (answer : List Item → ℕ → Option Action) (inside : Bool) (c : Command)
-        (s : State) → Owned s → Paths s.world
-        → apply (over_store arenas_fit answer) inside c s
-        ≡ apply (over_store counted_fit answer) inside c s }
+{}
+
+/// So over arenas, whatever the steps do, each list of calls from a new loop goes as it does where
+/// the slots are counted too: the same replies, the same runs and frees, and the same world. Nothing
+/// more is asked of arenas, and over them the paths hold after each list of calls and after a
+/// closing.
+pub fn arenas_keep_paths()
+    ensures alike { (answer : List Item → ℕ → Option Action) (limits : Limits) (cs : List Call)
+        → AreOpen (over_store arenas_fit answer) cs (new_state limits)
+        → calls (over_store arenas_fit answer) cs (new_state limits)
+        ≡ calls (over_store counted_fit answer) cs (new_state limits) }
+    ensures between { (answer : List Item → ℕ → Option Action) (limits : Limits) (cs : List Call)
+        → AreOpen (over_store arenas_fit answer) cs (new_state limits)
+        → Paths (calls (over_store arenas_fit answer) cs (new_state limits)).0.world }
+    ensures closed { (answer : List Item → ℕ → Option Action) (limits : Limits) (cs : List Call)
+        → AreOpen (over_store arenas_fit answer) cs (new_state limits)
+        → Paths (close (calls (over_store arenas_fit answer) cs (new_state limits)).0).world }
 {}
 
 /// What is asked of calls can be met, with takings among them. In a worked case a promise of two
 /// nodes in an arena of its own takes the place of a Chain in the middle of a path of six.
 pub fn a_promise_comes_with_its_path()
-    ensures fits { Fits worked_setting }
     ensures asked { AreOpen worked_setting (worked_builds ++ worked_turn)
         (new_state worked_limits) }
     ensures before { (calls worked_setting worked_builds (new_state worked_limits)).0.world.spots

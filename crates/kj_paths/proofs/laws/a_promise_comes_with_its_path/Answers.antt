@@ -1,11 +1,8 @@
 use Rattle.std.proofs.Common.{refl}
 use Rattle.kj_model.specs.Free.{free_to}
 use Rattle.kj_model.specs.Value.{value_to}
-use Rattle.kj_paths.proofs.Worked.{worked_fits, worked_open}
+use Rattle.kj_paths.proofs.Worked.{worked_open}
 use Rattle.kj_paths.proofs.laws.a_promise_comes_with_its_path.Goals as goal
-
-pub returns-clause-fits : goal.returns-clause-fits
-returns-clause-fits c = worked_fits
 
 pub returns-clause-asked : goal.returns-clause-asked
 returns-clause-asked c = worked_open
