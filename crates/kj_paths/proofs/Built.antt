@@ -105,7 +105,8 @@ once_more n x xs h none =
     by_number true e a = let z = none (same_number x.number n e) in let o = one_most (nat_eq x.number n) in omega (arith, a, z, o)
     by_number false e a = let z = none_here e in omega (arith, a, z, h)
 
-number_spot : (n : ℕ) (xs : List Spot) → is_in n (map (λ (x : Spot). x.number) xs) ≡ true → (x : Spot) × (spot_of n xs ≡ Some x)
+-- a number among those of spots has a spot
+pub number_spot : (n : ℕ) (xs : List Spot) → is_in n (map (λ (x : Spot). x.number) xs) ≡ true → (x : Spot) × (spot_of n xs ≡ Some x)
 number_spot n [] i = absurd (in_none n i)
 number_spot n (y ∷ ys) i = decide (nat_eq y.number n) refl (λ j. number_spot n ys j)
   where

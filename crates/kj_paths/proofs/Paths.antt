@@ -10,7 +10,6 @@ use Rattle.kj_model.specs.World.{World, State, Setting, new_state}
 use Rattle.kj_model.specs.Calls.{Call, call, calls, close}
 use Rattle.kj_model.specs.Owned.{numbers}
 use Rattle.kj_model.specs.Framed.{times, total}
-use Rattle.kj_model.proofs.Members.{in_none}
 use Rattle.kj_model.proofs.Once.{both_ways, false_by}
 use Rattle.kj_ownership.specs.Owners.{is_live}
 use Rattle.kj_ownership.specs.Standing.{Owned}
@@ -24,26 +23,10 @@ use Rattle.kj_ownership.proofs.Closing.{close_frees_all}
 use Rattle.kj_ownership.proofs.Sides.{numbers_apart}
 use Rattle.kj_paths.specs.Paths.{NextBefore, Paths, is_used, LivesIn, AreOpen}
 use Rattle.kj_paths.proofs.Laid.{Laid, no_spot, new_laid}
+use Rattle.kj_paths.proofs.Built.{number_spot}
 use Rattle.kj_paths.proofs.Calls.{call_laid, close_laid}
 
 -- spots and their numbers
-spot_there : (n : ℕ) (xs : List Spot) → is_in n (map (λ (x : Spot). x.number) xs) ≡ true → (x : Spot) × (spot_of n xs ≡ Some x)
-spot_there n [] i = absurd (in_none n i)
-spot_there n (y ∷ ys) i = decide (nat_eq y.number n) refl (λ j. spot_there n ys j)
-  where
-    here : nat_eq y.number n ≡ true → spot_of n (y ∷ ys) ≡ Some y
-    here e = grind (arith, nat_tests)
-
-    skip : nat_eq y.number n ≡ false → spot_of n (y ∷ ys) ≡ spot_of n ys
-    skip e = grind (arith, nat_tests)
-
-    rest : nat_eq y.number n ≡ false → is_in n (map (λ (x : Spot). x.number) ys) ≡ true
-    rest e = grind (arith, nat_tests)
-
-    decide : (b : Bool) → nat_eq y.number n ≡ b → (is_in n (map (λ (x : Spot). x.number) ys) ≡ true → (x : Spot) × (spot_of n ys ≡ Some x)) → (x : Spot) × (spot_of n (y ∷ ys) ≡ Some x)
-    decide true e ih = (y, here e)
-    decide false e ih = let r = ih (rest e) in (r.0, skip e ∙ r.1)
-
 pub spot_number : (n : ℕ) (x : Spot) (xs : List Spot) → spot_of n xs ≡ Some x → is_in n (map (λ (y : Spot). y.number) xs) ≡ true
 spot_number n x [] at = absurd (no_spot x at)
 spot_number n x (y ∷ ys) at = decide (nat_eq y.number n) refl (λ h. spot_number n x ys h)
@@ -72,7 +55,7 @@ some_owner f n (x ∷ xs) h = decide (is_in n (f x)) refl (λ k. some_owner f n 
 
 pub paths_of : (s : State) → Owned s → Laid [] s.world → Paths s.world
 paths_of s st g = record {
-  placed = λ n l. spot_there n s.world.spots (ap (is_in n) st.spots ∙ live_number n s.world.nodes l);
+  placed = λ n l. number_spot n s.world.spots (ap (is_in n) st.spots ∙ live_number n s.world.nodes l);
   live = λ n x at. live_at n x at;
   once = λ n. subst (λ (ns : List ℕ). times n ns ≤ 1) (sym st.spots) (numbers_apart s st.recorded n);
   places = g.place;

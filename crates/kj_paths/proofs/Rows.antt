@@ -348,7 +348,7 @@ module _ (w : World) (p : Apart w.spots) where
       cells_length (x ∷ xs) = let h = cells_length xs in omega (arith, h)
 
 -- where rows before different roots fit into arenas, there are slots for the live nodes and for theirs
-le_of : (a b : ℕ) → nat_le a b ≡ true → a ≤ b
+pub le_of : (a b : ℕ) → nat_le a b ≡ true → a ≤ b
 le_of a b h = grind (arith, nat_tests)
 
 enough : (slots s c k a n : ℕ) → s + c ≤ 8 * a → k ≤ c + 8 * n → n + a ≤ slots / 8 → s + k ≤ slots

@@ -1,8 +1,7 @@
 -- All calls go the same over arenas whether or not the slots are counted too.
-use Rattle.std.proofs.Common.{zero, suc, ◌≡◌, ℕ, ◌+◌, ◌≤◌, List, [], ◌∷◌, ◌++◌, Bool, true, false, Option, None, Some, arith, refl, sym, ap, ◌∙◌, subst, inl, ◌==◌, length}
-use Rattle.std.specs.Prelude.{is_some, nat_le}
+use Rattle.std.proofs.Common.{zero, suc, ◌≡◌, ℕ, ◌+◌, List, [], ◌∷◌, ◌++◌, Bool, true, false, Option, None, Some, refl, sym, ap, ◌∙◌, subst, inl, ◌==◌, length}
+use Rattle.std.specs.Prelude.{is_some}
 use Rattle.std.proofs.lemmas.Bool.{and_parts}
-use Rattle.std.proofs.lemmas.Bool.Decides.{nat_tests}
 use Rattle.kj_base.specs.declared.outcomes.Outcome.{Outcome}
 use Rattle.kj_base.specs.declared.outcomes.Outcome.TheVariants.{Value, Broken}
 use Rattle.kj_base.specs.declared.numbers.Limits.{Limits}
@@ -40,6 +39,7 @@ use Rattle.kj_paths.proofs.Values.{EachLaid, freed_laid, value_laid, value_to_la
 use Rattle.kj_paths.proofs.Turns.{left_laid, firing_laid, rewound_laid, event_laid, turn_laid}
 use Rattle.kj_paths.proofs.Calls.{held_laid, call_laid}
 use Rattle.kj_paths.proofs.Alike.{apply_alike}
+use Rattle.kj_paths.proofs.Rows.{le_of}
 
 -- commands
 rest_same : (o : Option Refused) (f h : State → State × Bool) (t : State) → f t ≡ h t → rest_applied o f t ≡ rest_applied o h t
@@ -270,11 +270,8 @@ module _ (answer : List Item → ℕ → Option Action) where
       (opens.0, opens.1, open_same fits cs r.0 (subst (λ (q : State × Reply). AreOpen (over_store arenas_fit answer) cs q.0) (call_same fits c s k g) opens.2) (call_keeps (over_store counted_fit answer) c s fits opens.0 opens.1 k) (call_laid (over_store counted_fit answer) c s fits k g))
 
 -- the slots are counted
-within : (a b : ℕ) → nat_le a b ≡ true → a ≤ b
-within a b h = grind (arith, nat_tests)
-
 pub counted_fits : (answer : List Item → ℕ → Option Action) → Fits (over_store counted_fit answer)
-counted_fits answer slots spots rows h = within (length spots + counts rows) slots (and_parts (arenas_fit slots spots rows) (table_fits slots spots rows) h).1
+counted_fits answer slots spots rows h = le_of (length spots + counts rows) slots (and_parts (arenas_fit slots spots rows) (table_fits slots spots rows) h).1
 
 -- from a new loop
 pub new_same : (answer : List Item → ℕ → Option Action) (limits : Limits) (cs : List Call) → AreOpen (over_store arenas_fit answer) cs (new_state limits) → calls (over_store arenas_fit answer) cs (new_state limits) ≡ calls (over_store counted_fit answer) cs (new_state limits)
