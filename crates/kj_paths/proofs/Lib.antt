@@ -1,0 +1,17 @@
+pub mod Laid
+pub mod Built
+pub mod Moves
+pub mod Freed
+pub mod Builders
+pub mod Effects
+pub mod Commands
+pub mod Values
+pub mod Replaced
+pub mod Fires
+pub mod Turns
+pub mod Calls
+pub mod Paths
+pub mod Worked
+pub mod Rows
+pub mod Alike
+pub mod Same
