@@ -129,7 +129,8 @@ impl<T: Kept> CountLock<T> {
         ensures made { IfOk result (λ p. (seen p ≡ seen pass.old) × (mine p ≡ []) × (kin p ≡ [])) }
         ensures spare { IfOk result (λ p. (first_spare pass.new ≡ first_spare pass.old + 1)
             × (end_spare pass.new ≡ first_spare p) × (end_spare p ≡ end_spare pass.old)
-            × (first_spare p + (end_spare pass.old - first_spare pass.old - 1) / 2 ≡ end_spare pass.old)) }
+            × (first_spare p + (end_spare pass.old - first_spare pass.old - 1) / 2
+            ≡ end_spare pass.old)) }
         ensures accounts { IfOk result (λ p. Accounts T.by pass.new (seen pass.new)
             × Accounts T.by p (seen p)) }
         ensures err { IfErr result (λ _. (first_spare pass.old ≡ end_spare pass.old)

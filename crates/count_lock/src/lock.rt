@@ -13,5 +13,6 @@ use std::alloc::Global;
 pub struct CountLock<T: Kept> {
     pub(crate) table: Table<Option<T>, View<T::Entry>, Key, Rule<T>, Global>,
     pub(crate) bells: Bells,
-    pub ghost sized: { (table.shared.table_id.words ≡ table.shared.key.words + 3) × (table.shared.table_id.slots ≡ 1) },
+    pub ghost sized: { (table.shared.table_id.words ≡ table.shared.key.words + 3)
+        × (table.shared.table_id.slots ≡ 1) },
 }

@@ -77,7 +77,8 @@ pub fn entry_opens_or_ends()
 /// outcome.
 pub fn ends_have_places()
     ensures entry { (limit : ℕ) (es : List Entry) (n place : ℕ) → end_of limit es n ≡ Some place
-        → (before : List Entry) × (e : Entry) × (more : List Entry) × (es ≡ before ++ e ∷ more) × (length before ≡ place) × (ends_by (board_of limit before) n e.call e.reply ≢ 0) }
+        → (before : List Entry) × (e : Entry) × (more : List Entry) × (es ≡ before ++ e ∷ more)
+        × (length before ≡ place) × (ends_by (board_of limit before) n e.call e.reply ≢ 0) }
     ensures collected { (limit : ℕ) (es : List Entry) (c n place : ℕ) → Legal limit es
         → Outstanding (of_caller c es) n → end_of limit es n ≡ Some place
         → (o : Outcome) × ((act (board_of limit es) c (Collect n)).1 ≡ Ended o) }

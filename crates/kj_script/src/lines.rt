@@ -1,7 +1,7 @@
 //! The lines of a script.
 ghost use Rattle.std.specs.Prelude.{◌≡◌, [], ◌∷◌, List, OnOk, IfOk};
 ghost use Rattle.kj_model.specs.Calls.{turn};
-ghost use Rattle.kj_model.specs.Log.{Body, Do, Logged, WasIdle, log_line, logged, run_lines, setting_of, turned_line};
+ghost use Rattle.kj_model.specs.Log.{Body, Do, Logged, WasIdle, log_line, run_lines, setting_of, turned_line};
 ghost use Rattle.loop_core.specs.Loops.{StandsAt};
 ghost use Rattle.promise_commands.specs.Commands.{command_of};
 ghost use Rattle.promise_commands.specs.Scripts.{line_of};

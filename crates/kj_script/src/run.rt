@@ -43,9 +43,9 @@ pub(crate) fn limits_of(limits: Option<Limits>) -> Limits
 fn new_loop(alloc: Global, limits: Limits) -> Result<Loop<NodeArena, EventLinks>, NoMemory>
     requires few { limits.slots ≤ MAX_SLOTS }
     requires arenas { limits.slots % 8 ≡ 0 }
-    ensures { IfOk result (λ l. StandsAt places_fit
-        (StandsFor (node_of l.nodes.store) l.nodes.queue.events (ArenasStand l.nodes.store) l.nodes.marks)
-        (NamesStand l.names) (new_state limits)) }
+    ensures { IfOk result
+        (λ l. StandsAt places_fit (StandsFor (node_of l.nodes.store) l.nodes.queue.events
+        (ArenasStand l.nodes.store) l.nodes.marks) (NamesStand l.names) (new_state limits)) }
 {
     let store = NodeArena::new(alloc, limits.slots)?;
     let queue = EventLinks::new(alloc, limits.slots + 1)?;

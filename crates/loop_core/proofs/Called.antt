@@ -3,17 +3,18 @@ use Rattle.std.proofs.Common.{◌≡◌, ◌∙◌, ℕ, List, [], ◌++◌, Opt
 use Rattle.std.proofs.lemmas.List.{append-nil}
 use Rattle.kj_base.specs.Counts.{HasLacked}
 use Rattle.kj_base.specs.Record.{Item}
+use Rattle.promise_commands.specs.Telling.{Telling}
 use Rattle.kj_model.specs.Log.{passing}
 use Rattle.kj_model.specs.World.{State, Setting}
 use Rattle.promise_walks.specs.Values.{Answer, Agrees, Rule, setting_of}
 use Rattle.promise_walks.proofs.Answering.{agrees_append}
-use Rattle.promise_walks.proofs.Composed.{tells_none, tells_then}
+use Rattle.promise_walks.proofs.Composed.{hears_none, hears_then}
 use Rattle.promise_turns.specs.Acting.{IsMissing}
 use Rattle.promise_turns.proofs.Answering.{told_agrees, told_answer}
 use Rattle.loop_core.specs.Calls.{CallIs, ComesTo}
 
 -- the state to which a call in which no step lacked memory leads, with answers that always find it
-pub led : {E : Type 0} (A B : State → Type 0) (rule : Rule) (f g : Setting → State → E) (a b : Option (List Item)) (k l : ℕ)
+pub led : {E : Type 0} (A B : State → Type 0) (rule : Rule) (f g : Setting → State → E) (a b : Telling) (k l : ℕ)
     → (p : CallIs A B rule f g a b k l) → p.missing ≡ None → (s : State) → A s
     → ComesTo B (f (setting_of rule (told_answer (Some passing) (s.past ++ p.items))) s) (g (setting_of rule (told_answer (Some passing) (s.past ++ p.items)))) (s.past ++ p.items)
 led A B rule f g a b k l p none s old =
@@ -21,17 +22,17 @@ led A B rule f g a b k l p none s old =
     p.leads answer s old (told_agrees (Some passing) s.past p.items) (subst (λ (o : Option ℕ). IsMissing answer (s.past ++ p.items) o) (sym none) tt)
 
 -- the count stands where no step lacked memory
-pub stands_still : {E : Type 0} (A B : State → Type 0) (rule : Rule) (f g : Setting → State → E) (a b : Option (List Item)) (k l : ℕ)
+pub stands_still : {E : Type 0} (A B : State → Type 0) (rule : Rule) (f g : Setting → State → E) (a b : Telling) (k l : ℕ)
     → (p : CallIs A B rule f g a b k l) → p.missing ≡ None → (s : State) → A s → l ≡ k
 stands_still A B rule f g a b k l p none s old = subst (λ (o : Option ℕ). HasLacked (is_some o) k l) none (p.counts s old)
 
 -- one part after another; in the first no step lacked memory
-pub call_then : {E : Type 0} (A B C : State → Type 0) (rule : Rule) (f g h : Setting → State → E) (a b c : Option (List Item)) (k l m : ℕ)
+pub call_then : {E : Type 0} (A B C : State → Type 0) (rule : Rule) (f g h : Setting → State → E) (a b c : Telling) (k l m : ℕ)
     → (p : CallIs A B rule f g a b k l) → p.missing ≡ None → CallIs B C rule g h b c l m → CallIs A C rule f h a c k m
 call_then A B C rule f g h a b c k l m p none q = record {
   items = p.items ++ q.items;
   missing = q.missing;
-  told = tells_then a b c p.items q.items p.told q.told;
+  told = hears_then a b c p.items q.items p.told q.told;
   counts = λ s old.
       let r = led A B rule f g a b k l p none s old in
       subst (λ (n : ℕ). HasLacked (is_some q.missing) n m) (stands_still A B rule f g a b k l p none s old) (q.counts r.state r.stands);
@@ -44,13 +45,13 @@ call_then A B C rule f g h a b c k l m p none q = record {
 }
 
 -- nothing is told
-pub call_silent : {E : Type 0} (A B : State → Type 0) (rule : Rule) (f g : Setting → State → E) (a : Option (List Item)) (k : ℕ)
+pub call_silent : {E : Type 0} (A B : State → Type 0) (rule : Rule) (f g : Setting → State → E) (a : Telling) (k : ℕ)
     → ((answer : Answer) (s : State) → A s → ComesTo B (f (setting_of rule answer) s) (g (setting_of rule answer)) s.past)
     → CallIs A B rule f g a a k k
 call_silent A B rule f g a k same = record {
   items = [];
   missing = None;
-  told = tells_none a;
+  told = hears_none a;
   counts = λ s old. refl;
   leads = λ answer s old agrees lacking.
       let r = same answer s old in
@@ -58,7 +59,7 @@ call_silent A B rule f g a k same = record {
 }
 
 -- what is done with an end is done with both
-pub call_in : {E F : Type 0} (A B : State → Type 0) (rule : Rule) (f g : Setting → State → E) (h : Setting → E → F) (a b : Option (List Item)) (k l : ℕ)
+pub call_in : {E F : Type 0} (A B : State → Type 0) (rule : Rule) (f g : Setting → State → E) (h : Setting → E → F) (a b : Telling) (k l : ℕ)
     → CallIs A B rule f g a b k l → CallIs A B rule (λ setting s. h setting (f setting s)) (λ setting s. h setting (g setting s)) a b k l
 call_in A B rule f g h a b k l p = record {
   items = p.items;
@@ -71,12 +72,12 @@ call_in A B rule f g h a b k l p = record {
 }
 
 -- a call in which no step lacked memory
-pub record Found {E : Type 0} (A B : State → Type 0) (rule : Rule) (f g : Setting → State → E) (a b : Option (List Item)) (k l : ℕ) : Type 0 where
+pub record Found {E : Type 0} (A B : State → Type 0) (rule : Rule) (f g : Setting → State → E) (a b : Telling) (k l : ℕ) : Type 0 where
   pub call : CallIs A B rule f g a b k l
   pub none : call.missing ≡ None
 
 -- nothing was done yet
-pub found_none : {E : Type 0} (A : State → Type 0) (rule : Rule) (f : Setting → State → E) (a : Option (List Item)) (k : ℕ) → Found A A rule f f a a k k
+pub found_none : {E : Type 0} (A : State → Type 0) (rule : Rule) (f : Setting → State → E) (a : Telling) (k : ℕ) → Found A A rule f f a a k k
 unfolding call_silent
 found_none A rule f a k = record {
   call = call_silent A A rule f f a k (λ answer s old. record { state = s; stands = old; past_is = refl; ends = refl });
@@ -84,7 +85,7 @@ found_none A rule f a k = record {
 }
 
 -- two such parts
-pub found_then : {E : Type 0} (A B C : State → Type 0) (rule : Rule) (f g h : Setting → State → E) (a b c : Option (List Item)) (k l m : ℕ)
+pub found_then : {E : Type 0} (A B C : State → Type 0) (rule : Rule) (f g h : Setting → State → E) (a b c : Telling) (k l m : ℕ)
     → Found A B rule f g a b k l → Found B C rule g h b c l m → Found A C rule f h a c k m
 unfolding call_then
 found_then A B C rule f g h a b c k l m p q = record {
@@ -93,7 +94,7 @@ found_then A B C rule f g h a b c k l m p q = record {
 }
 
 -- what is done with an end is done with both
-pub found_in : {E F : Type 0} (A B : State → Type 0) (rule : Rule) (f g : Setting → State → E) (h : Setting → E → F) (a b : Option (List Item)) (k l : ℕ)
+pub found_in : {E F : Type 0} (A B : State → Type 0) (rule : Rule) (f g : Setting → State → E) (h : Setting → E → F) (a b : Telling) (k l : ℕ)
     → Found A B rule f g a b k l → Found A B rule (λ setting s. h setting (f setting s)) (λ setting s. h setting (g setting s)) a b k l
 unfolding call_in
 found_in A B rule f g h a b k l p = record {

@@ -1,6 +1,7 @@
 -- The closing frees each number once.
 use Rattle.std.proofs.Common.{◌≡◌, ◌∙◌, List, [], ◌∷◌, ◌++◌, Option, refl, length, drop, sym, ap}
 use Rattle.kj_base.specs.Record.{Item}
+use Rattle.promise_commands.specs.Telling.{Telling}
 use Rattle.kj_model.specs.Calls.{close}
 use Rattle.kj_model.specs.Changes.{frees_in}
 use Rattle.kj_model.specs.Framed.{times}
@@ -16,7 +17,7 @@ drop_front : (xs ys : List Item) → drop (length xs) (xs ++ ys) ≡ ys
 drop_front [] ys = refl
 drop_front (x ∷ xs) ys = drop_front xs ys
 
-pub closing_frees : (rule : Rule) (OldNodes OldNames NewNodes NewNames : World → Type 0) (a b : Option (List Item))
+pub closing_frees : (rule : Rule) (OldNodes OldNames NewNodes NewNames : World → Type 0) (a b : Telling)
     → Does (Both OldNodes OldNames) (Both NewNodes NewNames) close (λ s. s) a b → Closes (StandsAt rule OldNodes OldNames) a b
 closing_frees rule OldNodes OldNames NewNodes NewNames a b d =
     let past : (s : State) → StandsAt rule OldNodes OldNames s → (close s).past ≡ s.past ++ d.items = λ s old.

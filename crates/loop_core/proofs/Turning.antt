@@ -3,6 +3,7 @@ use Rattle.std.proofs.Common.{◌≡◌, ◌∙◌, ℕ, suc, List, [], ◌++◌
 use Rattle.kj_base.specs.Commands.{Command}
 use Rattle.kj_base.specs.Counts.{HasLacked}
 use Rattle.kj_base.specs.Record.{Item}
+use Rattle.promise_commands.specs.Telling.{Telling}
 use Rattle.kj_model.specs.Apply.{Refused, apply}
 use Rattle.kj_model.specs.Calls.{CallApply, CallTurn, Turned, NoMemory, more_turns, run, turn, turn_unless}
 use Rattle.kj_model.specs.World.{World, State, Setting}
@@ -22,7 +23,7 @@ use Rattle.loop_core.specs.Loops.{StandsAt}
 use Rattle.loop_core.proofs.Called.{Found, call_in, call_silent, found_in, led, stands_still}
 
 -- a command, with the frees that it tells
-pub command_called : (rule : Rule) (OldNodes OldNames NewNodes NewNames : World → Type 0) (c : Command) (refused : Option Refused) (a b : Option (List Item)) (k l : ℕ)
+pub command_called : (rule : Rule) (OldNodes OldNames NewNodes NewNames : World → Type 0) (c : Command) (refused : Option Refused) (a b : Telling) (k l : ℕ)
     → l ≡ k → DoesCommand (Both OldNodes OldNames) (Both NewNodes NewNames) rule refused c a b
     → CallIs (StandsAt rule OldNodes OldNames) (StandsAt rule NewNodes NewNames) rule (λ setting s. apply setting false c s) (λ setting s. (s, refused)) a b k l
 command_called rule OldNodes OldNames NewNodes NewNames c refused a b k l same done = record {
@@ -49,7 +50,7 @@ missing_as NoMemoryCase missing = missing
 missing_as StoppedCase missing = None
 
 -- what a turn's parts say of it
-pub record TurnIs (rule : Rule) (OldNodes OldNames NewNodes NewNames : World → Type 0) (turned : TurnedCase) (a b : Option (List Item)) (k l : ℕ) : Type 0 where
+pub record TurnIs (rule : Rule) (OldNodes OldNames NewNodes NewNames : World → Type 0) (turned : TurnedCase) (a b : Telling) (k l : ℕ) : Type 0 where
   pub acts : Acts (Both OldNodes OldNames) (Both NewNodes NewNames) rule MayTurn turn (turned_as turned) a b k l
   pub memory : (answer : Answer) (s : State) → Both OldNodes OldNames s.world → MayTurn (setting_of rule answer) s → HasLacked (lacked_memory turned) k l
 
@@ -64,7 +65,7 @@ not_memory NoMemoryCase other e = other refl
 not_memory StoppedCase other e = absurd (cc e)
 
 -- where a step finds no memory just where one found none
-gone : (rule : Rule) (OldNodes OldNames NewNodes NewNames : World → Type 0) (turned : TurnedCase) (a b : Option (List Item)) (k l : ℕ) (t : TurnIs rule OldNodes OldNames NewNodes NewNames turned a b k l)
+gone : (rule : Rule) (OldNodes OldNames NewNodes NewNames : World → Type 0) (turned : TurnedCase) (a b : Telling) (k l : ℕ) (t : TurnIs rule OldNodes OldNames NewNodes NewNames turned a b k l)
     (answer : Answer) (s : State) → StandsAt rule OldNodes OldNames s → Agrees answer s.past t.acts.items → IsMissing answer (s.past ++ t.acts.items) t.acts.missing
     → ComesTo (StandsAt rule NewNodes NewNames) (turn (setting_of rule answer) s) (turned_as turned) (s.past ++ t.acts.items)
 gone rule OldNodes OldNames NewNodes NewNames turned a b k l t answer s old agrees lacking =
@@ -79,7 +80,7 @@ gone rule OldNodes OldNames NewNodes NewNames turned a b k l t answer s old agre
     }
 
 -- where the answer isn't that there was no memory, whether steps find any after what was told doesn't matter
-found : (rule : Rule) (OldNodes OldNames NewNodes NewNames : World → Type 0) (turned : TurnedCase) (a b : Option (List Item)) (k l : ℕ) (t : TurnIs rule OldNodes OldNames NewNodes NewNames turned a b k l)
+found : (rule : Rule) (OldNodes OldNames NewNodes NewNames : World → Type 0) (turned : TurnedCase) (a b : Telling) (k l : ℕ) (t : TurnIs rule OldNodes OldNames NewNodes NewNames turned a b k l)
     (missing : Option ℕ) → t.acts.missing ≡ missing → (turned ≡ NoMemoryCase → ⊥) → (answer : Answer) (s : State) → StandsAt rule OldNodes OldNames s → Agrees answer s.past t.acts.items
     → ComesTo (StandsAt rule NewNodes NewNames) (turn (setting_of rule answer) s) (turned_as turned) (s.past ++ t.acts.items)
 unfolding gone
@@ -110,7 +111,7 @@ found rule OldNodes OldNames NewNodes NewNames turned a b k l t (Some step) some
         (ap (λ (x : State × Turned). x.1) there.ends
         ∙ turn_told (setting_of rule (told_answer None whole)) s e (ap (λ (x : State × Turned). x.0.world.stopped) (sym there.ends) ∙ stopped)))
 
-turn_leads : (rule : Rule) (OldNodes OldNames NewNodes NewNames : World → Type 0) (turned : TurnedCase) (a b : Option (List Item)) (k l : ℕ) (t : TurnIs rule OldNodes OldNames NewNodes NewNames turned a b k l)
+turn_leads : (rule : Rule) (OldNodes OldNames NewNodes NewNames : World → Type 0) (turned : TurnedCase) (a b : Telling) (k l : ℕ) (t : TurnIs rule OldNodes OldNames NewNodes NewNames turned a b k l)
     (answer : Answer) (s : State) → StandsAt rule OldNodes OldNames s → Agrees answer s.past t.acts.items → IsMissing answer (s.past ++ t.acts.items) (missing_as turned t.acts.missing)
     → ComesTo (StandsAt rule NewNodes NewNames) (turn (setting_of rule answer) s) (turned_as turned) (s.past ++ t.acts.items)
 unfolding missing_as
@@ -119,7 +120,7 @@ turn_leads rule OldNodes OldNames NewNodes NewNames IdleCase a b k l t answer s 
 turn_leads rule OldNodes OldNames NewNodes NewNames NoMemoryCase a b k l t answer s old agrees lacking = gone rule OldNodes OldNames NewNodes NewNames NoMemoryCase a b k l t answer s old agrees lacking
 turn_leads rule OldNodes OldNames NewNodes NewNames StoppedCase a b k l t answer s old agrees lacking = found rule OldNodes OldNames NewNodes NewNames StoppedCase a b k l t t.acts.missing refl (λ e. absurd (cc e)) answer s old agrees
 
-turn_counts : (rule : Rule) (OldNodes OldNames NewNodes NewNames : World → Type 0) (turned : TurnedCase) (a b : Option (List Item)) (k l : ℕ) (t : TurnIs rule OldNodes OldNames NewNodes NewNames turned a b k l)
+turn_counts : (rule : Rule) (OldNodes OldNames NewNodes NewNames : World → Type 0) (turned : TurnedCase) (a b : Telling) (k l : ℕ) (t : TurnIs rule OldNodes OldNames NewNodes NewNames turned a b k l)
     (s : State) → StandsAt rule OldNodes OldNames s → HasLacked (is_some (missing_as turned t.acts.missing)) k l
 unfolding missing_as
 turn_counts rule OldNodes OldNames NewNodes NewNames FiredCase a b k l t s old = t.memory (told_answer None []) s old.stands (old.takes, rests_of s old.kept)
@@ -128,7 +129,7 @@ turn_counts rule OldNodes OldNames NewNodes NewNames NoMemoryCase a b k l t s ol
 turn_counts rule OldNodes OldNames NewNodes NewNames StoppedCase a b k l t s old = t.memory (told_answer None []) s old.stands (old.takes, rests_of s old.kept)
 
 -- a turn
-pub turn_called : (rule : Rule) (OldNodes OldNames NewNodes NewNames : World → Type 0) (turned : TurnedCase) (a b : Option (List Item)) (k l : ℕ) → TurnIs rule OldNodes OldNames NewNodes NewNames turned a b k l
+pub turn_called : (rule : Rule) (OldNodes OldNames NewNodes NewNames : World → Type 0) (turned : TurnedCase) (a b : Telling) (k l : ℕ) → TurnIs rule OldNodes OldNames NewNodes NewNames turned a b k l
     → CallIs (StandsAt rule OldNodes OldNames) (StandsAt rule NewNodes NewNames) rule turn (λ setting. turned_as turned) a b k l
 turn_called rule OldNodes OldNames NewNodes NewNames turned a b k l t = record {
   items = t.acts.items;
@@ -139,24 +140,24 @@ turn_called rule OldNodes OldNames NewNodes NewNames turned a b k l t = record {
 }
 
 -- the count rises just where a turn answers that there was no memory
-pub turn_memory : (rule : Rule) (OldNodes OldNames NewNodes NewNames : World → Type 0) (turned : TurnedCase) (a b : Option (List Item)) (k l : ℕ) → TurnIs rule OldNodes OldNames NewNodes NewNames turned a b k l
+pub turn_memory : (rule : Rule) (OldNodes OldNames NewNodes NewNames : World → Type 0) (turned : TurnedCase) (a b : Telling) (k l : ℕ) → TurnIs rule OldNodes OldNames NewNodes NewNames turned a b k l
     → (s : State) → StandsAt rule OldNodes OldNames s → HasLacked (lacked_memory turned) k l
 turn_memory rule OldNodes OldNames NewNodes NewNames turned a b k l t s old = t.memory (told_answer None []) s old.stands (old.takes, rests_of s old.kept)
 
-turn_fired : (rule : Rule) (OldNodes OldNames NewNodes NewNames : World → Type 0) (a b : Option (List Item)) (k l : ℕ) → TurnIs rule OldNodes OldNames NewNodes NewNames FiredCase a b k l
+turn_fired : (rule : Rule) (OldNodes OldNames NewNodes NewNames : World → Type 0) (a b : Telling) (k l : ℕ) → TurnIs rule OldNodes OldNames NewNodes NewNames FiredCase a b k l
     → Found (StandsAt rule OldNodes OldNames) (StandsAt rule NewNodes NewNames) rule turn (λ setting. turned_as FiredCase) a b k l
 unfolding missing_as turn_called
 turn_fired rule OldNodes OldNames NewNodes NewNames a b k l t = record { call = turn_called rule OldNodes OldNames NewNodes NewNames FiredCase a b k l t; none = refl }
 
 -- a turn that fired, of so many
-pub first_fired : (rule : Rule) (OldNodes OldNames NewNodes NewNames : World → Type 0) (n : ℕ) (a b : Option (List Item)) (k l : ℕ) → TurnIs rule OldNodes OldNames NewNodes NewNames FiredCase a b k l
+pub first_fired : (rule : Rule) (OldNodes OldNames NewNodes NewNames : World → Type 0) (n : ℕ) (a b : Telling) (k l : ℕ) → TurnIs rule OldNodes OldNames NewNodes NewNames FiredCase a b k l
     → Found (StandsAt rule OldNodes OldNames) (StandsAt rule NewNodes NewNames) rule (λ setting. run setting (suc n)) (λ setting. run setting n) a b k l
 first_fired rule OldNodes OldNames NewNodes NewNames n a b k l t =
     found_in (StandsAt rule OldNodes OldNames) (StandsAt rule NewNodes NewNames) rule turn (λ setting. turned_as FiredCase) (λ setting r. more_turns (run setting n) r.1 r.0) a b k l
     (turn_fired rule OldNodes OldNames NewNodes NewNames a b k l t)
 
 -- a turn that ends the run
-pub last_turn : (A B : State → Type 0) (rule : Rule) (n : ℕ) (turned : TurnedCase) (a b : Option (List Item)) (k l : ℕ)
+pub last_turn : (A B : State → Type 0) (rule : Rule) (n : ℕ) (turned : TurnedCase) (a b : Telling) (k l : ℕ)
     → (turned ≡ FiredCase → ⊥)
     → CallIs A B rule turn (λ setting. turned_as turned) a b k l
     → CallIs A B rule (λ setting. run setting (suc n)) (λ setting. turned_as turned) a b k l
@@ -169,7 +170,7 @@ last_turn A B rule n StoppedCase a b k l other p =
     call_in A B rule turn (λ setting. turned_as StoppedCase) (λ setting r. more_turns (run setting n) r.1 r.0) a b k l p
 
 -- the count rises just where the turn behind turns that fired answers that there was no memory
-pub last_memory : {E : Type 0} (A B : State → Type 0) (rule : Rule) (f g : Setting → State → E) (turned : TurnedCase) (a b : Option (List Item)) (k l m : ℕ)
+pub last_memory : {E : Type 0} (A B : State → Type 0) (rule : Rule) (f g : Setting → State → E) (turned : TurnedCase) (a b : Telling) (k l m : ℕ)
     → Found A B rule f g a b k l → ((s : State) → B s → HasLacked (lacked_memory turned) l m) → (s : State) → A s → HasLacked (lacked_memory turned) k m
 last_memory A B rule f g turned a b k l m p memory s old =
     let r = led A B rule f g a b k l p.call p.none s old in

@@ -2,6 +2,7 @@
 use Rattle.std.proofs.Common.{◌≡◌, ◌∙◌, ℕ, List, [], Option, None, Some, Bool, false, refl, sym, ap, subst}
 use Rattle.std.proofs.lemmas.List.{append-nil}
 use Rattle.kj_base.specs.Record.{Item}
+use Rattle.promise_commands.specs.Telling.{Telling}
 use Rattle.kj_model.specs.Calls.{CallWait, Waited, held_awaited, wait, wait_held, wait_more, wait_unless, with_awaited}
 use Rattle.kj_model.specs.Changes.{silent, unnamed}
 use Rattle.kj_model.specs.World.{World, State, Setting, Held, Promise, held_at}
@@ -9,7 +10,7 @@ use Rattle.kj_ownership.proofs.Calls.{call_keeps, rests_of}
 use Rattle.kj_ownership.proofs.Reached.{listened_only}
 use Rattle.kj_ownership.proofs.Waits.{held_rests}
 use Rattle.kj_ownership.specs.Kept.{Kept}
-use Rattle.promise_walks.proofs.Composed.{tells_none}
+use Rattle.promise_walks.proofs.Composed.{hears_none}
 use Rattle.promise_walks.specs.Walks.{Both}
 use Rattle.promise_walks.specs.Values.{Rule, setting_of}
 use Rattle.loop_core.specs.Calls.{CallIs}
@@ -18,7 +19,7 @@ use Rattle.loop_core.specs.Waits.{Waits}
 use Rattle.loop_core.proofs.Called.{Found, call_silent}
 
 -- the promise is taken out of its name, and the wait listens
-pub wait_begins : (rule : Rule) (OldNodes OldNames NewNodes NewNames : World → Type 0) (name root n : ℕ) (a : Option (List Item)) (k : ℕ)
+pub wait_begins : (rule : Rule) (OldNodes OldNames NewNodes NewNames : World → Type 0) (name root n : ℕ) (a : Telling) (k : ℕ)
     → ((s : State) → StandsAt rule OldNodes OldNames s → s.world.stopped ≡ false)
     → ((s : State) → StandsAt rule OldNodes OldNames s → held_at name s.world.names ≡ Some (Promise root))
     → ((w : World) → Both OldNodes OldNames w → Both NewNodes NewNames (held_awaited name root w))
@@ -27,7 +28,7 @@ wait_begins rule OldNodes OldNames NewNodes NewNames name root n a k runs at beg
   call = record {
     items = [];
     missing = None;
-    told = tells_none a;
+    told = hears_none a;
     counts = λ s old. refl;
     leads = λ answer s old agrees lacking. record {
       state = silent (held_awaited name root) s;
@@ -43,7 +44,7 @@ wait_begins rule OldNodes OldNames NewNodes NewNames name root n a k runs at beg
 }
 
 -- a wait that changes nothing
-pub wait_stays : (rule : Rule) (Nodes Names : World → Type 0) (name n : ℕ) (waited : Waited) (a : Option (List Item)) (k : ℕ)
+pub wait_stays : (rule : Rule) (Nodes Names : World → Type 0) (name n : ℕ) (waited : Waited) (a : Telling) (k : ℕ)
     → ((setting : Setting) (s : State) → StandsAt rule Nodes Names s → wait setting name n s ≡ (s, waited))
     → CallIs (StandsAt rule Nodes Names) (StandsAt rule Nodes Names) rule (λ setting. wait setting name n) (λ setting s. (s, waited)) a a k k
 wait_stays rule Nodes Names name n waited a k same =
@@ -51,7 +52,7 @@ wait_stays rule Nodes Names name n waited a k same =
     (λ answer s old. record { state = s; stands = old; past_is = refl; ends = sym (same (setting_of rule answer) s old) })
 
 -- behind what was told a change that isn't told
-pub call_after : {E : Type 0} (A B C : State → Type 0) (rule : Rule) (f g h : Setting → State → E) (change : World → World) (a b : Option (List Item)) (k l : ℕ)
+pub call_after : {E : Type 0} (A B C : State → Type 0) (rule : Rule) (f g h : Setting → State → E) (change : World → World) (a b : Telling) (k l : ℕ)
     → CallIs A B rule f g a b k l
     → ((setting : Setting) (s : State) → B s → C (silent change s) × (h setting (silent change s) ≡ g setting s))
     → CallIs A C rule f h a b k l
@@ -67,7 +68,7 @@ call_after A B C rule f g h change a b k l p same = record {
 }
 
 -- what each state keeps between two calls is kept by a whole wait
-pub wait_ends : (rule : Rule) (OldNodes OldNames NewNodes NewNames : World → Type 0) (name n : ℕ) (waited : Waited) (a b : Option (List Item)) (k l : ℕ)
+pub wait_ends : (rule : Rule) (OldNodes OldNames NewNodes NewNames : World → Type 0) (name n : ℕ) (waited : Waited) (a b : Telling) (k l : ℕ)
     → CallIs (StandsAt rule OldNodes OldNames) (λ s. Both NewNodes NewNames s.world) rule (λ setting. wait setting name n) (λ setting s. (s, waited)) a b k l
     → CallIs (StandsAt rule OldNodes OldNames) (StandsAt rule NewNodes NewNames) rule (λ setting. wait setting name n) (λ setting s. (s, waited)) a b k l
 wait_ends rule OldNodes OldNames NewNodes NewNames name n waited a b k l p = record {

@@ -6,6 +6,7 @@ use Rattle.kj_base.specs.declared.nodes.Link.{Link}
 use Rattle.kj_base.specs.Counts.{HasLacked}
 use Rattle.kj_base.specs.Queue.{Events, IsQueue, head_of, rewound}
 use Rattle.kj_base.specs.Record.{Item}
+use Rattle.promise_commands.specs.Telling.{Telling}
 use Rattle.kj_model.specs.Calls.{Turned, Fired, NoMemory, WaitIdle, WaitNoMemory, let_go, lost, rewound_world, turn, wait_more, wait_turn, wait_turned}
 use Rattle.kj_model.specs.Changes.{silent, with_queue}
 use Rattle.kj_model.specs.World.{World, State, Setting}
@@ -26,13 +27,13 @@ use Rattle.loop_core.specs.declared.waiting.WaitEnd.TheVariants.{Ready, Idle as 
 use Rattle.loop_core.proofs.Called.{Found, led, stands_still}
 
 -- what a turn's parts say of it
-pub record TakenIs (rule : Rule) (OldNodes OldNames NewNodes NewNames : World → Type 0) (taken : TakenCase) (a b : Option (List Item)) (k l : ℕ) : Type 0 where
+pub record TakenIs (rule : Rule) (OldNodes OldNames NewNodes NewNames : World → Type 0) (taken : TakenCase) (a b : Telling) (k l : ℕ) : Type 0 where
   pub acts : Acts (Both OldNodes OldNames) (Both NewNodes NewNames) rule RunsOn turn (turned_as (turned_in taken)) a b k l
   pub memory : (answer : Answer) (s : State) → Both OldNodes OldNames s.world → RunsOn (setting_of rule answer) s → HasLacked (lacked_memory (turned_in taken)) k l
   pub event : (w : World) → OldNodes w → IsTaken taken (head_of w.queue)
 
 -- the definition leads to where the next turn may begin
-turn_leads : (rule : Rule) (OldNodes OldNames NewNodes NewNames : World → Type 0) (taken : TakenCase) (a b : Option (List Item)) (k l : ℕ) (t : TakenIs rule OldNodes OldNames NewNodes NewNames taken a b k l)
+turn_leads : (rule : Rule) (OldNodes OldNames NewNodes NewNames : World → Type 0) (taken : TakenCase) (a b : Telling) (k l : ℕ) (t : TakenIs rule OldNodes OldNames NewNodes NewNames taken a b k l)
     (answer : Answer) (s : State) → Waits rule OldNodes OldNames s → Agrees answer s.past t.acts.items → IsMissing answer (s.past ++ t.acts.items) t.acts.missing
     → ComesTo (Rested rule NewNodes NewNames) (turn (setting_of rule answer) s) (turned_as (turned_in taken)) (s.past ++ t.acts.items)
 turn_leads rule OldNodes OldNames NewNodes NewNames taken a b k l t answer s old agrees lacking =
@@ -58,7 +59,7 @@ not_memory IdleIn other e = cc
 not_memory NoMemoryIn other e = other
 
 -- else none was missing
-none_missing : (rule : Rule) (OldNodes OldNames NewNodes NewNames : World → Type 0) (taken : TakenCase) (a b : Option (List Item)) (k l : ℕ) (t : TakenIs rule OldNodes OldNames NewNodes NewNames taken a b k l)
+none_missing : (rule : Rule) (OldNodes OldNames NewNodes NewNames : World → Type 0) (taken : TakenCase) (a b : Telling) (k l : ℕ) (t : TakenIs rule OldNodes OldNames NewNodes NewNames taken a b k l)
     (missing : Option ℕ) → t.acts.missing ≡ missing → NotLacking taken → (s : State) → Waits rule OldNodes OldNames s → missing ≡ None
 none_missing rule OldNodes OldNames NewNodes NewNames taken a b k l t None is other s old = refl
 none_missing rule OldNodes OldNames NewNodes NewNames taken a b k l t (Some step) is other s old = absurd (not_memory taken other (answered ∙ told))
@@ -107,7 +108,7 @@ runs_on setting false u s is runs ends = is
 runs_on setting true u s is runs ends = absurd (fired_lacks (ap (λ (x : State × Turned). x.1) ends ∙ turn_told setting s runs (sym (ap (λ (x : State × Turned). x.0.world.stopped) ends) ∙ is)))
 
 -- the event of a node fired
-pub other_fired : (rule : Rule) (OldNodes OldNames NewNodes NewNames : World → Type 0) (event : Link) (n : ℕ) (a b : Option (List Item)) (k l : ℕ) → nat_eq event.number.0 0 ≡ false
+pub other_fired : (rule : Rule) (OldNodes OldNames NewNodes NewNames : World → Type 0) (event : Link) (n : ℕ) (a b : Telling) (k l : ℕ) → nat_eq event.number.0 0 ≡ false
     → TakenIs rule OldNodes OldNames NewNodes NewNames (FiredIn event) a b k l
     → Found (Waits rule OldNodes OldNames) (Waits rule NewNodes NewNames) rule (λ setting. wait_more setting (suc n)) (λ setting. wait_more setting n) a b k l
 other_fired rule OldNodes OldNames NewNodes NewNames event n a b k l apart t = record {
@@ -131,7 +132,7 @@ other_fired rule OldNodes OldNames NewNodes NewNames event n a b k l apart t = r
 }
 
 -- the event of the wait fired
-pub own_fired : (rule : Rule) (OldNodes OldNames NewNodes NewNames : World → Type 0) (event : Link) (n : ℕ) (a b : Option (List Item)) (k l : ℕ) → nat_eq event.number.0 0 ≡ true
+pub own_fired : (rule : Rule) (OldNodes OldNames NewNodes NewNames : World → Type 0) (event : Link) (n : ℕ) (a b : Telling) (k l : ℕ) → nat_eq event.number.0 0 ≡ true
     → TakenIs rule OldNodes OldNames NewNodes NewNames (FiredIn event) a b k l
     → CallIs (Waits rule OldNodes OldNames) (Rested rule NewNodes NewNames) rule (λ setting. wait_more setting (suc n)) (λ setting. left_of_wait Ready setting) a b k l
 own_fired rule OldNodes OldNames NewNodes NewNames event n a b k l own t = record {
@@ -163,7 +164,7 @@ same_state : (s : State) → head_of s.world.queue ≡ None → IsQueue s.world.
 same_state s none is = ap (λ (q : Events). silent (with_queue q) s) (rewound_is s.world.queue none is)
 
 -- no event is armed
-pub none_fired : (rule : Rule) (OldNodes OldNames NewNodes NewNames : World → Type 0) (n : ℕ) (a b : Option (List Item)) (k l : ℕ)
+pub none_fired : (rule : Rule) (OldNodes OldNames NewNodes NewNames : World → Type 0) (n : ℕ) (a b : Telling) (k l : ℕ)
     → TakenIs rule OldNodes OldNames NewNodes NewNames IdleIn a b k l
     → CallIs (Waits rule OldNodes OldNames) (Rested rule NewNodes NewNames) rule (λ setting. wait_more setting (suc n)) (λ setting. left_of_wait IdleEnd setting) a b k l
 none_fired rule OldNodes OldNames NewNodes NewNames n a b k l t = record {
@@ -194,7 +195,7 @@ lost_is setting n (Some e) u s is some ends = by (nat_eq e 0) refl
     by true own = turned_is setting n e true (u, NoMemory) s is own ends
     by false apart = turned_is setting n e false (u, NoMemory) s is apart ends
 
-pub none_found : (rule : Rule) (OldNodes OldNames NewNodes NewNames : World → Type 0) (n : ℕ) (a b : Option (List Item)) (k l : ℕ)
+pub none_found : (rule : Rule) (OldNodes OldNames NewNodes NewNames : World → Type 0) (n : ℕ) (a b : Telling) (k l : ℕ)
     → TakenIs rule OldNodes OldNames NewNodes NewNames NoMemoryIn a b k l
     → CallIs (Waits rule OldNodes OldNames) (Rested rule NewNodes NewNames) rule (λ setting. wait_more setting (suc n)) (λ setting. left_of_wait NoMemoryEnd setting) a b k l
 none_found rule OldNodes OldNames NewNodes NewNames n a b k l t = record {
@@ -213,7 +214,7 @@ none_found rule OldNodes OldNames NewNodes NewNames n a b k l t = record {
 }
 
 -- the count behind turns that fired and one more
-pub last_lacks : {E : Type 0} (rule : Rule) (OldNodes OldNames MidNodes MidNames NewNodes NewNames : World → Type 0) (f g : Setting → State → E) (taken : TakenCase) (a b c : Option (List Item)) (k l m : ℕ)
+pub last_lacks : {E : Type 0} (rule : Rule) (OldNodes OldNames MidNodes MidNames NewNodes NewNames : World → Type 0) (f g : Setting → State → E) (taken : TakenCase) (a b c : Telling) (k l m : ℕ)
     → Found (Waits rule OldNodes OldNames) (Waits rule MidNodes MidNames) rule f g a b k l → TakenIs rule MidNodes MidNames NewNodes NewNames taken b c l m
     → (s : State) → Waits rule OldNodes OldNames s → HasLacked (lacked_memory (turned_in taken)) k m
 last_lacks rule OldNodes OldNames MidNodes MidNames NewNodes NewNames f g taken a b c k l m p t s old =
@@ -224,7 +225,7 @@ last_lacks rule OldNodes OldNames MidNodes MidNames NewNodes NewNames f g taken 
     (t.memory (told_answer None []) r.state r.stands.rested.stands ((r.stands.rested.takes, r.stands.rested.rests), r.stands.runs))
 
 -- a state at which the next turn of a wait may begin, whether the loop runs or not
-pub call_rested : {E : Type 0} (A : State → Type 0) (rule : Rule) (Nodes Names : World → Type 0) (f g : Setting → State → E) (a b : Option (List Item)) (k l : ℕ)
+pub call_rested : {E : Type 0} (A : State → Type 0) (rule : Rule) (Nodes Names : World → Type 0) (f g : Setting → State → E) (a b : Telling) (k l : ℕ)
     → CallIs A (Waits rule Nodes Names) rule f g a b k l → CallIs A (Rested rule Nodes Names) rule f g a b k l
 call_rested A rule Nodes Names f g a b k l p = record {
   items = p.items;

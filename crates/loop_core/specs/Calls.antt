@@ -1,7 +1,8 @@
 -- The calls of a loop, against the definitions.
 use Rattle.std.specs.Prelude.{◌≡◌, ◌&&◌, ℕ, List, ◌++◌, Option, nat_lt, is_some}
 use Rattle.kj_base.specs.Counts.{HasLacked}
-use Rattle.kj_base.specs.Record.{Item, Tells}
+use Rattle.kj_base.specs.Record.{Item}
+use Rattle.promise_commands.specs.Telling.{Telling, Hears}
 use Rattle.kj_model.specs.Changes.{frees_in}
 use Rattle.kj_model.specs.Calls.{close}
 use Rattle.kj_model.specs.Framed.{times}
@@ -20,10 +21,10 @@ pub record ComesTo {E : Type 0} (New : State → Type 0) (end : E) (after : Stat
 
 -- just these items were told, and then a step found no memory, or none did, which the count says; from each state at which
 -- the loop stood, where steps answer so, the definition leads to one at which it stands now
-pub record CallIs {E : Type 0} (Old New : State → Type 0) (rule : Rule) (before after : Setting → State → E) (told_before told_after : Option (List Item)) (lacks_before lacks_after : ℕ) : Type 0 where
+pub record CallIs {E : Type 0} (Old New : State → Type 0) (rule : Rule) (before after : Setting → State → E) (told_before told_after : Telling) (lacks_before lacks_after : ℕ) : Type 0 where
   pub items : List Item
   pub missing : Option ℕ
-  pub told : Tells told_before items told_after
+  pub told : Hears told_before items told_after
   pub counts : (s : State) → Old s → HasLacked (is_some missing) lacks_before lacks_after
   pub leads :
       (answer : Answer) (s : State) → Old s → Agrees answer s.past items → IsMissing answer (s.past ++ items) missing
@@ -35,8 +36,8 @@ pub record FreesEachOnce (s : State) (items : List Item) : Type 0 where
   pub live : (n : ℕ) → times n (frees_in items) ≡ times n (numbers s.world.nodes)
 
 -- the closing told just these items
-pub record Closes (Old : State → Type 0) (told_before told_after : Option (List Item)) : Type 0 where
+pub record Closes (Old : State → Type 0) (told_before told_after : Telling) : Type 0 where
   pub items : List Item
-  pub told : Tells told_before items told_after
+  pub told : Hears told_before items told_after
   pub closed : (s : State) → Old s → (close s).past ≡ s.past ++ items
   pub freed : (s : State) → Old s → FreesEachOnce s items

@@ -78,7 +78,8 @@ pub(crate) fn put(entries: &mut Vec<Entry>, entry: Entry)
 pub(crate) fn take(entries: &mut Vec<Entry>, name: Name)
     requires { IsRising entries.old.items }
     ensures items { entries.new.items ≡ without_entry name.0 entries.old.items }
-    ensures gone { IsSome (held_in name.0 entries.old.items) → vec_len entries.new + 1 ≡ vec_len entries.old }
+    ensures gone { IsSome (held_in name.0 entries.old.items)
+        → vec_len entries.new + 1 ≡ vec_len entries.old }
     ensures few { vec_len entries.new ≤ vec_len entries.old }
     ensures capacity { vec_capacity entries.new ≡ vec_capacity entries.old }
 {

@@ -36,7 +36,8 @@ pub(crate) fn put(
     ensures roots_cut { roots.new.cut ≡ roots.old.cut }
     ensures roots_total { total_of roots.new ≡ total_of roots.old }
     ensures known { result ≡ true → Knows names.new.tree roots.new.tree }
-    ensures stays { is_known ≡ true → HasNoName (root_of (Some held)) roots.old.tree → 0 < vec_len roots.old.spare → result ≡ true }
+    ensures stays { is_known ≡ true → HasNoName (root_of (Some held)) roots.old.tree
+        → 0 < vec_len roots.old.spare → result ≡ true }
 {
     forget(roots, name, names.get(name.0 as u64));
     names.put(name.0 as u64, held);
@@ -53,7 +54,8 @@ pub(crate) fn remove(names: &mut KeyMap<Held>, roots: &mut KeyMap<Name>, name: N
     ensures names { IsMap names.new }
     ensures cut { names.new.cut ≡ names.old.cut }
     ensures total { total_of names.new ≡ total_of names.old }
-    ensures gone { IsSome (value_at name.0 names.old.tree) → count_of names.new.tree + 1 ≡ count_of names.old.tree }
+    ensures gone { IsSome (value_at name.0 names.old.tree)
+        → count_of names.new.tree + 1 ≡ count_of names.old.tree }
     ensures few { count_of names.new.tree ≤ count_of names.old.tree }
     ensures roots { IsMap roots.new }
     ensures roots_cut { roots.new.cut ≡ roots.old.cut }
@@ -86,8 +88,10 @@ fn give(
     ensures roots { IsMap roots.new }
     ensures roots_cut { roots.new.cut ≡ roots.old.cut }
     ensures roots_total { total_of roots.new ≡ total_of roots.old }
-    ensures known { result ≡ true → Knows names.old.tree roots.old.tree → Knows names.new.tree roots.new.tree }
-    ensures stays { HasNoName (Some new.number.0) roots.old.tree → 0 < vec_len roots.old.spare → result ≡ true }
+    ensures known { result ≡ true → Knows names.old.tree roots.old.tree
+        → Knows names.new.tree roots.new.tree }
+    ensures stays { HasNoName (Some new.number.0) roots.old.tree → 0 < vec_len roots.old.spare
+        → result ≡ true }
 {
     forget(roots, name, Some(Held::Promise(old)));
     names.replace(name.0 as u64, Held::Promise(new));
@@ -118,7 +122,8 @@ pub(crate) fn rename(
     ensures roots_cut { roots.new.cut ≡ roots.old.cut }
     ensures roots_total { total_of roots.new ≡ total_of roots.old }
     ensures known { result ≡ true → Knows names.new.tree roots.new.tree }
-    ensures stays { is_known ≡ true → HasNoName (Some new.number.0) roots.old.tree → 0 < vec_len roots.old.spare → result ≡ true }
+    ensures stays { is_known ≡ true → HasNoName (Some new.number.0) roots.old.tree
+        → 0 < vec_len roots.old.spare → result ≡ true }
 {
     match name_of(names, roots, old) {
         Some(name) => give(names, roots, name, old, new) && is_known,

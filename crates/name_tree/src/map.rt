@@ -123,7 +123,8 @@ impl<V: Copy> KeyMap<V> {
         ensures map { IsMap self.new }
         ensures cut { self.new.cut ≡ self.old.cut }
         ensures total { total_of self.new ≡ total_of self.old }
-        ensures gone { IsSome (value_at key self.old.tree) → count_of self.new.tree + 1 ≡ count_of self.old.tree }
+        ensures gone { IsSome (value_at key self.old.tree)
+            → count_of self.new.tree + 1 ≡ count_of self.old.tree }
         ensures few { count_of self.new.tree ≤ count_of self.old.tree }
     {
         if let Some(node) = tree::take(&mut self.tree, key, self.cut) {

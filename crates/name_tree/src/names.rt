@@ -56,7 +56,8 @@ impl Model for NameTree {
 impl NameTree {
     /// No names, in a loop with these limits. This takes all memory.
     pub fn new(alloc: Global, limits: Limits) -> Result<NameTree, NoMemory>
-        ensures stands { IfOk result (λ names. (all : Limits) → all.names ≡ limits.names → Stands names (new_world all)) }
+        ensures stands { IfOk result
+            (λ names. (all : Limits) → all.names ≡ limits.names → Stands names (new_world all)) }
         ensures no_names { IfOk result (λ names. count_of names ≡ 0) }
         ensures no_promises { IfOk result (λ names. (name : ℕ) → root_at names name ≡ None) }
         ensures limit { IfOk result (λ names. names.limit ≡ limits.names) }

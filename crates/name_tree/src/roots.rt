@@ -18,9 +18,11 @@ pub(crate) fn forget(roots: &mut KeyMap<Name>, name: Name, held: Option<Held>)
     ensures cut { roots.new.cut ≡ roots.old.cut }
     ensures total { total_of roots.new ≡ total_of roots.old }
     ensures others { KeepsOthers name.0 roots.old.tree roots.new.tree }
-    ensures none { (root : ℕ) → value_at root roots.old.tree ≡ None → value_at root roots.new.tree ≡ None }
+    ensures none { (root : ℕ) → value_at root roots.old.tree ≡ None
+        → value_at root roots.new.tree ≡ None }
     ensures room { vec_len roots.old.spare ≤ vec_len roots.new.spare }
-    ensures gone { (root : ℕ) → root_of held ≡ Some root → value_at root roots.new.tree ≡ Some name → ⊥ }
+    ensures gone { (root : ℕ) → root_of held ≡ Some root → value_at root roots.new.tree ≡ Some name
+        → ⊥ }
 {
     if let Some(Held::Promise(root)) = held {
         if roots.get(root.number.0) == Some(name) {
@@ -38,7 +40,8 @@ pub(crate) fn learn(roots: &mut KeyMap<Name>, name: Name, held: Held) -> bool
     ensures total { total_of roots.new ≡ total_of roots.old }
     ensures others { KeepsAll roots.old.tree roots.new.tree }
     ensures learnt { result ≡ true → HasName name.0 (root_of (Some held)) roots.new.tree }
-    ensures sure { HasNoName (root_of (Some held)) roots.old.tree → 0 < vec_len roots.old.spare → result ≡ true }
+    ensures sure { HasNoName (root_of (Some held)) roots.old.tree → 0 < vec_len roots.old.spare
+        → result ≡ true }
 {
     match held {
         Held::Promise(root) => learn_root(roots, name, root),
@@ -55,7 +58,8 @@ fn learn_root(roots: &mut KeyMap<Name>, name: Name, root: Link) -> bool
     ensures total { total_of roots.new ≡ total_of roots.old }
     ensures others { KeepsAll roots.old.tree roots.new.tree }
     ensures learnt { result ≡ true → HasName name.0 (Some root.number.0) roots.new.tree }
-    ensures sure { HasNoName (Some root.number.0) roots.old.tree → 0 < vec_len roots.old.spare → result ≡ true }
+    ensures sure { HasNoName (Some root.number.0) roots.old.tree → 0 < vec_len roots.old.spare
+        → result ≡ true }
 {
     match roots.get(root.number.0) {
         Some(other) => other.0 == name.0,
@@ -85,7 +89,8 @@ pub(crate) fn name_of(names: &KeyMap<Held>, roots: &KeyMap<Name>, root: Link) ->
     requires names { IsMap names.now }
     requires roots { IsMap roots.now }
     ensures found { IfSome result (λ name. root_in name.0 names.now.tree ≡ Some root.number.0) }
-    ensures none { result ≡ None → Knows names.now.tree roots.now.tree → (n : ℕ) → root_in n names.now.tree ≡ Some root.number.0 → ⊥ }
+    ensures none { result ≡ None → Knows names.now.tree roots.now.tree → (n : ℕ)
+        → root_in n names.now.tree ≡ Some root.number.0 → ⊥ }
 {
     match roots.get(root.number.0) {
         Some(name) if promises(names.get(name.0 as u64), root) => Some(name),

@@ -7,6 +7,7 @@ use Rattle.std.proofs.lemmas.List.{append-nil}
 use Rattle.std.proofs.Math.Seq.{drop-length}
 use Rattle.kj_base.specs.Commands.{Command, Action, Drop}
 use Rattle.kj_base.specs.Record.{Item}
+use Rattle.promise_commands.specs.Telling.{Telling}
 use Rattle.kj_model.specs.Nodes.{form_at, is_in}
 use Rattle.kj_model.specs.World.{World, State, Held, Promise, HubOf, Group, Canceler, held_at}
 use Rattle.kj_model.specs.Changes.{silent, unnamed}
@@ -22,7 +23,7 @@ use Rattle.kj_base.specs.declared.nodes.Link.{Link}
 use Rattle.kj_base.specs.declared.numbers.StepId.{StepId}
 use Rattle.promise_names.specs.Held.{SeesHeld, held_shown, members_of}
 use Rattle.promise_walks.specs.Walks.{Does}
-use Rattle.promise_walks.proofs.Composed.{tells_none}
+use Rattle.promise_walks.proofs.Composed.{hears_none}
 use Rattle.promise_apply.specs.Applying.{Applies, DoesCommand, IsApplied, Rule, setting_of, lacks_room, or_else, refused_first, refused_if, names_refused}
 use Rattle.promise_apply.specs.Dropping.{IsHolder, frees_firing, hub_frees_firing}
 use Rattle.promise_apply.proofs.Refused.{none_first, or_else_twice, passed_names, passed_on, refusal_when}
@@ -112,11 +113,11 @@ holder_calm name s is none = holder_calm_at s.world.firing name s is none
 -- ---- what is told
 
 -- a command that is refused tells nothing
-pub refused_does : (Old New : World → Type 0) (rule : Rule) (r : Refused) (c : Command) (told : Option (List Item)) → ((w : World) → Old w → New w)
+pub refused_does : (Old New : World → Type 0) (rule : Rule) (r : Refused) (c : Command) (told : Telling) → ((w : World) → Old w → New w)
     → ((answer : List Item → ℕ → Option Action) (inside : Bool) (s : State) → Old s.world → refusal (setting_of rule answer) inside c s ≡ Some r) → DoesCommand Old New rule (Some r) c told told
 refused_does Old New rule r c told keep why = record {
   items = [];
-  told = tells_none told;
+  told = hears_none told;
   applied = λ answer inside s old.
       subst (IsApplied New (s.past ++ []) (Some r)) (sym (ap (λ (o : Option Refused). applied o c s) (why answer inside s old)))
       (record { reply = refl; stands = keep s.world old; past_is = sym (append-nil s.past) });
@@ -126,7 +127,7 @@ abbrev with_none : State → State × Option Refused
 with_none s = (s, None)
 
 -- one that isn't tells what it frees
-pub done_does : (Old Mid New : World → Type 0) (rule : Rule) (c : Command) (change : World → World) (free : State → State) (a b : Option (List Item))
+pub done_does : (Old Mid New : World → Type 0) (rule : Rule) (c : Command) (change : World → World) (free : State → State) (a b : Telling)
     → ((answer : List Item → ℕ → Option Action) (inside : Bool) (s : State) → Old s.world → refusal (setting_of rule answer) inside c s ≡ None)
     → ((s : State) → Old s.world → effect (usual s.world) c s ≡ free (silent change s)) → ((w : World) → Old w → Mid (change w)) → Does Mid New free (λ s. s) a b → DoesCommand Old New rule None c a b
 done_does Old Mid New rule c change free a b why same moved done = record {
@@ -140,7 +141,7 @@ done_does Old Mid New rule c change free a b why same moved done = record {
 }
 
 -- one that is refused so
-pub err_does : (Old New : World → Type 0) (rule : Rule) (r : Result (Unit {0}) RefusedCase) (e : RefusedCase) (c : Command) (told : Option (List Item)) → IsErrAnd r (λ x. x ≡ e) → ((w : World) → Old w → New w)
+pub err_does : (Old New : World → Type 0) (rule : Rule) (r : Result (Unit {0}) RefusedCase) (e : RefusedCase) (c : Command) (told : Telling) → IsErrAnd r (λ x. x ≡ e) → ((w : World) → Old w → New w)
     → ((answer : List Item → ℕ → Option Action) (inside : Bool) (s : State) → Old s.world → refusal (setting_of rule answer) inside c s ≡ Some (refused_of e)) → DoesCommand Old New rule (refusal_of r) c told told
 err_does Old New rule r e c told so keep why =
     subst (λ (o : Option Refused). DoesCommand Old New rule o c told told) (sym (passed_on r e so)) (refused_does Old New rule (refused_of e) c told keep why)
@@ -199,5 +200,5 @@ no_nothing None sees role = false≢true role
 no_nothing (Some seen) sees role = sees
 
 -- so it does as well as anything
-pub never_does : (Old New : World → Type 0) (rule : Rule) (o : Option Refused) (c : Command) (told : Option (List Item)) → ((w : World) → Old w → ⊥) → DoesCommand Old New rule o c told told
-never_does Old New rule o c told never = record { items = []; told = tells_none told; applied = λ answer inside s old. absurd (never s.world old) }
+pub never_does : (Old New : World → Type 0) (rule : Rule) (o : Option Refused) (c : Command) (told : Telling) → ((w : World) → Old w → ⊥) → DoesCommand Old New rule o c told told
+never_does Old New rule o c told never = record { items = []; told = hears_none told; applied = λ answer inside s old. absurd (never s.world old) }

@@ -2,7 +2,8 @@
 use Rattle.std.specs.Prelude.{◌≡◌, ℕ, ◌+◌, ◌≤◌, ◌^◌, List, [], ◌∷◌, ◌++◌, Option, None, Some, Bool, true, false, IsTrue, not, ◌||◌, ◌&&◌, nat_lt, length}
 use Rattle.kj_base.specs.Commands.{Command, Action}
 use Rattle.kj_base.specs.Places.{Spot, Row}
-use Rattle.kj_base.specs.Record.{Item, Tells}
+use Rattle.kj_base.specs.Record.{Item}
+use Rattle.promise_commands.specs.Telling.{Telling, Hears}
 use Rattle.promise_commands.specs.declared.command.Command.{Command as CommandCase}
 use Rattle.promise_commands.specs.declared.command.Command.TheVariants.{Drop as DropCase}
 use Rattle.kj_model.specs.World.{World, State, Setting, Awaited}
@@ -31,9 +32,9 @@ abbrev pub Applies : (World → Type 0) → (World → Type 0) → Rule → Opti
 Applies Old New rule refused c = (answer : List Item → ℕ → Option Action) (inside : Bool) (s : State) → Old s.world → IsApplied New s.past refused (apply (setting_of rule answer) inside c s)
 
 -- the same, and just these items were told
-pub record DoesCommand (Old New : World → Type 0) (rule : Rule) (refused : Option Refused) (c : Command) (told_before told_after : Option (List Item)) : Type 0 where
+pub record DoesCommand (Old New : World → Type 0) (rule : Rule) (refused : Option Refused) (c : Command) (told_before told_after : Telling) : Type 0 where
   pub items : List Item
-  pub told : Tells told_before items told_after
+  pub told : Hears told_before items told_after
   pub applied : (answer : List Item → ℕ → Option Action) (inside : Bool) (s : State) → Old s.world → IsApplied New (s.past ++ items) refused (apply (setting_of rule answer) inside c s)
 
 -- the first of two causes

@@ -4,7 +4,7 @@ ghost use Rattle.kj_base.specs.Commands.{Command as CommandSeen, Action, step_of
 ghost use Rattle.kj_base.specs.declared.outcomes.Outcome.TheVariants.{Value, Broken as BrokenBy};
 ghost use Rattle.kj_base.specs.Places.{row};
 ghost use Rattle.kj_base.specs.Record.{Item};
-ghost use Rattle.kj_model.specs.World.{World, State};
+ghost use Rattle.kj_model.specs.World.{State};
 ghost use Rattle.kj_model.specs.Nodes.{Ready, parts_of};
 ghost use Rattle.kj_model.specs.Uses.{use_as, new_over, IsNew, IsSource, IsCell, IsHub};
 ghost use Rattle.kj_model.specs.Effects.{leaf_built, over_named, over_listening, chain_built, fork_built, branch_built, cell_settled, cell_dropped, detached_built};
@@ -47,7 +47,10 @@ fn apply_leaf<N: Nodes, M: Names>(
     requires leaf { parts_of (shown [] form) ≡ [] }
     requires free { AreFree (M.roots names.old) (N.is_taken nodes.old) (N.next nodes.old) }
     requires few { M.count names.old ≤ M.limit names.old }
-    ensures applied { (c : CommandSeen) → IsCommand c (use_as IsNew name.0 ∷ []) (λ w. anew 1 ∷ []) (leaf_built name.0 (shown [] form)) → Applies (Both (N.stands nodes.old) (M.stands names.old)) (Both (N.stands nodes.new) (M.stands names.new)) N.rule (refusal_of result) c }
+    ensures applied { (c : CommandSeen) → IsCommand c
+        (use_as IsNew name.0 ∷ []) (λ w. anew 1 ∷ []) (leaf_built name.0 (shown [] form))
+        → Applies (Both (N.stands nodes.old) (M.stands names.old))
+        (Both (N.stands nodes.new) (M.stands names.new)) N.rule (refusal_of result) c }
     ensures free { AreFree (M.roots names.new) (N.is_taken nodes.new) (N.next nodes.new) }
     ensures few { M.count names.new ≤ M.limit names.new }
     ensures limit { M.limit names.new ≡ M.limit names.old }
@@ -80,7 +83,10 @@ fn apply_pair<N: Nodes, M: Names>(
 ) -> Result<(), Refused>
     requires free { AreFree (M.roots names.old) (N.is_taken nodes.old) (N.next nodes.old) }
     requires few { M.count names.old ≤ M.limit names.old }
-    ensures applied { (c : CommandSeen) → IsCommand c (use_as IsNew name.0 ∷ use_as IsNew cell.0 ∷ []) (λ w. anew 1 ∷ []) (pair_built name.0 cell.0) → Applies (Both (N.stands nodes.old) (M.stands names.old)) (Both (N.stands nodes.new) (M.stands names.new)) N.rule (refusal_of result) c }
+    ensures applied { (c : CommandSeen)
+        → IsCommand c (use_as IsNew name.0 ∷ use_as IsNew cell.0 ∷ []) (λ w. anew 1 ∷ [])
+        (pair_built name.0 cell.0) → Applies (Both (N.stands nodes.old) (M.stands names.old))
+        (Both (N.stands nodes.new) (M.stands names.new)) N.rule (refusal_of result) c }
     ensures free { AreFree (M.roots names.new) (N.is_taken nodes.new) (N.next nodes.new) }
     ensures few { M.count names.new ≤ M.limit names.new }
     ensures limit { M.limit names.new ≡ M.limit names.old }
@@ -121,7 +127,10 @@ fn apply_over<N: Nodes, M: Names>(
 ) -> Result<(), Refused>
     requires free { AreFree (M.roots names.old) (N.is_taken nodes.old) (N.next nodes.old) }
     requires few { M.count names.old ≤ M.limit names.old }
-    ensures applied { (c : CommandSeen) → IsCommand c (new_over name.0 (source.0 ∷ [])) (λ w. before_source 1 source.0 w ∷ []) (over_named name.0 (over_shown over) source.0) → Applies (Both (N.stands nodes.old) (M.stands names.old)) (Both (N.stands nodes.new) (M.stands names.new)) N.rule (refusal_of result) c }
+    ensures applied { (c : CommandSeen) → IsCommand c (new_over name.0 (source.0 ∷ []))
+        (λ w. before_source 1 source.0 w ∷ []) (over_named name.0 (over_shown over) source.0)
+        → Applies (Both (N.stands nodes.old) (M.stands names.old))
+        (Both (N.stands nodes.new) (M.stands names.new)) N.rule (refusal_of result) c }
     ensures free { AreFree (M.roots names.new) (N.is_taken nodes.new) (N.next nodes.new) }
     ensures few { M.count names.new ≤ M.limit names.new }
     ensures limit { M.limit names.new ≡ M.limit names.old }
@@ -168,7 +177,10 @@ fn apply_listening<N: Nodes, M: Names>(
 ) -> Result<(), Refused>
     requires free { AreFree (M.roots names.old) (N.is_taken nodes.old) (N.next nodes.old) }
     requires few { M.count names.old ≤ M.limit names.old }
-    ensures applied { (c : CommandSeen) → IsCommand c (new_over name.0 (source.0 ∷ [])) (λ w. before_source 1 source.0 w ∷ []) (over_listening name.0 (over_shown over) source.0) → Applies (Both (N.stands nodes.old) (M.stands names.old)) (Both (N.stands nodes.new) (M.stands names.new)) N.rule (refusal_of result) c }
+    ensures applied { (c : CommandSeen) → IsCommand c (new_over name.0 (source.0 ∷ []))
+        (λ w. before_source 1 source.0 w ∷ []) (over_listening name.0 (over_shown over) source.0)
+        → Applies (Both (N.stands nodes.old) (M.stands names.old))
+        (Both (N.stands nodes.new) (M.stands names.new)) N.rule (refusal_of result) c }
     ensures free { AreFree (M.roots names.new) (N.is_taken nodes.new) (N.next nodes.new) }
     ensures few { M.count names.new ≤ M.limit names.new }
     ensures limit { M.limit names.new ≡ M.limit names.old }
@@ -216,7 +228,11 @@ fn apply_chain<N: Nodes, M: Names>(
 ) -> Result<(), Refused>
     requires free { AreFree (M.roots names.old) (N.is_taken nodes.old) (N.next nodes.old) }
     requires few { M.count names.old ≤ M.limit names.old }
-    ensures applied { (c : CommandSeen) → IsCommand c (new_over name.0 (source.0 ∷ [])) (λ w. before_source 2 source.0 w ∷ []) (chain_built name.0 source.0 (step_of value) (step_of error)) → Applies (Both (N.stands nodes.old) (M.stands names.old)) (Both (N.stands nodes.new) (M.stands names.new)) N.rule (refusal_of result) c }
+    ensures applied { (c : CommandSeen)
+        → IsCommand c (new_over name.0 (source.0 ∷ [])) (λ w. before_source 2 source.0 w ∷ [])
+        (chain_built name.0 source.0 (step_of value) (step_of error))
+        → Applies (Both (N.stands nodes.old) (M.stands names.old))
+        (Both (N.stands nodes.new) (M.stands names.new)) N.rule (refusal_of result) c }
     ensures free { AreFree (M.roots names.new) (N.is_taken nodes.new) (N.next nodes.new) }
     ensures few { M.count names.new ≤ M.limit names.new }
     ensures limit { M.limit names.new ≡ M.limit names.old }
@@ -262,7 +278,10 @@ fn apply_fork<N: Nodes, M: Names>(
 ) -> Result<(), Refused>
     requires free { AreFree (M.roots names.old) (N.is_taken nodes.old) (N.next nodes.old) }
     requires few { M.count names.old ≤ M.limit names.old }
-    ensures applied { (c : CommandSeen) → IsCommand c (new_over name.0 (source.0 ∷ [])) (λ w. anew 1 ∷ []) (fork_built name.0 source.0) → Applies (Both (N.stands nodes.old) (M.stands names.old)) (Both (N.stands nodes.new) (M.stands names.new)) N.rule (refusal_of result) c }
+    ensures applied { (c : CommandSeen)
+        → IsCommand c (new_over name.0 (source.0 ∷ [])) (λ w. anew 1 ∷ [])
+        (fork_built name.0 source.0) → Applies (Both (N.stands nodes.old) (M.stands names.old))
+        (Both (N.stands nodes.new) (M.stands names.new)) N.rule (refusal_of result) c }
     ensures free { AreFree (M.roots names.new) (N.is_taken nodes.new) (N.next nodes.new) }
     ensures few { M.count names.new ≤ M.limit names.new }
     ensures limit { M.limit names.new ≡ M.limit names.old }
@@ -307,7 +326,10 @@ fn apply_branch<N: Nodes, M: Names>(
 ) -> Result<(), Refused>
     requires free { AreFree (M.roots names.old) (N.is_taken nodes.old) (N.next nodes.old) }
     requires few { M.count names.old ≤ M.limit names.old }
-    ensures applied { (c : CommandSeen) → IsCommand c (use_as IsNew name.0 ∷ use_as IsHub hub.0 ∷ []) (λ w. anew 1 ∷ []) (branch_built name.0 hub.0) → Applies (Both (N.stands nodes.old) (M.stands names.old)) (Both (N.stands nodes.new) (M.stands names.new)) N.rule (refusal_of result) c }
+    ensures applied { (c : CommandSeen)
+        → IsCommand c (use_as IsNew name.0 ∷ use_as IsHub hub.0 ∷ []) (λ w. anew 1 ∷ [])
+        (branch_built name.0 hub.0) → Applies (Both (N.stands nodes.old) (M.stands names.old))
+        (Both (N.stands nodes.new) (M.stands names.new)) N.rule (refusal_of result) c }
     ensures free { AreFree (M.roots names.new) (N.is_taken nodes.new) (N.next nodes.new) }
     ensures few { M.count names.new ≤ M.limit names.new }
     ensures limit { M.limit names.new ≡ M.limit names.old }
@@ -352,7 +374,10 @@ fn apply_outcome<N: Nodes, M: Names>(
 ) -> Result<(), Refused>
     requires free { AreFree (M.roots names.old) (N.is_taken nodes.old) (N.next nodes.old) }
     requires few { M.count names.old ≤ M.limit names.old }
-    ensures applied { (c : CommandSeen) → IsCommand c (use_as IsCell name.0 ∷ []) (λ w. []) (cell_settled name.0 outcome) → Applies (Both (N.stands nodes.old) (M.stands names.old)) (Both (N.stands nodes.new) (M.stands names.new)) N.rule (refusal_of result) c }
+    ensures applied { (c : CommandSeen)
+        → IsCommand c (use_as IsCell name.0 ∷ []) (λ w. []) (cell_settled name.0 outcome)
+        → Applies (Both (N.stands nodes.old) (M.stands names.old))
+        (Both (N.stands nodes.new) (M.stands names.new)) N.rule (refusal_of result) c }
     ensures free { AreFree (M.roots names.new) (N.is_taken nodes.new) (N.next nodes.new) }
     ensures few { M.count names.new ≤ M.limit names.new }
     ensures limit { M.limit names.new ≡ M.limit names.old }
@@ -386,7 +411,10 @@ fn apply_drop_cell<N: Nodes, M: Names>(
 ) -> Result<(), Refused>
     requires free { AreFree (M.roots names.old) (N.is_taken nodes.old) (N.next nodes.old) }
     requires few { M.count names.old ≤ M.limit names.old }
-    ensures applied { (c : CommandSeen) → IsCommand c (use_as IsCell name.0 ∷ []) (λ w. []) (cell_dropped name.0) → Applies (Both (N.stands nodes.old) (M.stands names.old)) (Both (N.stands nodes.new) (M.stands names.new)) N.rule (refusal_of result) c }
+    ensures applied { (c : CommandSeen)
+        → IsCommand c (use_as IsCell name.0 ∷ []) (λ w. []) (cell_dropped name.0)
+        → Applies (Both (N.stands nodes.old) (M.stands names.old))
+        (Both (N.stands nodes.new) (M.stands names.new)) N.rule (refusal_of result) c }
     ensures free { AreFree (M.roots names.new) (N.is_taken nodes.new) (N.next nodes.new) }
     ensures few { M.count names.new ≤ M.limit names.new }
     ensures limit { M.limit names.new ≡ M.limit names.old }
@@ -420,7 +448,10 @@ fn apply_detach<N: Nodes, M: Names>(
 ) -> Result<(), Refused>
     requires free { AreFree (M.roots names.old) (N.is_taken nodes.old) (N.next nodes.old) }
     requires few { M.count names.old ≤ M.limit names.old }
-    ensures applied { (c : CommandSeen) → IsCommand c (use_as IsSource source.0 ∷ []) (λ w. before_source 1 source.0 w ∷ []) (detached_built source.0) → Applies (Both (N.stands nodes.old) (M.stands names.old)) (Both (N.stands nodes.new) (M.stands names.new)) N.rule (refusal_of result) c }
+    ensures applied { (c : CommandSeen)
+        → IsCommand c (use_as IsSource source.0 ∷ []) (λ w. before_source 1 source.0 w ∷ [])
+        (detached_built source.0) → Applies (Both (N.stands nodes.old) (M.stands names.old))
+        (Both (N.stands nodes.new) (M.stands names.new)) N.rule (refusal_of result) c }
     ensures free { AreFree (M.roots names.new) (N.is_taken nodes.new) (N.next nodes.new) }
     ensures few { M.count names.new ≤ M.limit names.new }
     ensures limit { M.limit names.new ≡ M.limit names.old }
@@ -472,7 +503,8 @@ fn joined_uses(name: Name, wanted: &[Name]) -> ArrayVec<Use, MAX_USES>
 // The rows of a join: one before each tree, and one anew.
 fn joined_rows<M: Names>(names: &M, wanted: &[Name]) -> ArrayVec<NodeRow, MAX_USES>
     requires few { length wanted.now ≤ MAX_PARTS }
-    ensures { rows_seen result.items ≡ rows_before (M.roots names.now) (name_numbers wanted.now) ++ row None 1 ∷ [] }
+    ensures { rows_seen result.items
+        ≡ rows_before (M.roots names.now) (name_numbers wanted.now) ++ row None 1 ∷ [] }
 {
     let mut rows = ArrayVec::new();
     for source in wanted {
@@ -500,7 +532,11 @@ fn apply_joined<N: Nodes, M: Names>(
     requires kind { FitsJoined kind (length wanted.now) }
     requires free { AreFree (M.roots names.old) (N.is_taken nodes.old) (N.next nodes.old) }
     requires few { M.count names.old ≤ M.limit names.old }
-    ensures applied { (c : CommandSeen) → IsCommand c (new_over name.0 (name_numbers wanted.now)) (λ w. map (λ source. before_source 1 source w) (name_numbers wanted.now) ++ anew 1 ∷ []) (joined_built kind name.0 (name_numbers wanted.now)) → Applies (Both (N.stands nodes.old) (M.stands names.old)) (Both (N.stands nodes.new) (M.stands names.new)) N.rule (refusal_of result) c }
+    ensures applied { (c : CommandSeen) → IsCommand c (new_over name.0 (name_numbers wanted.now))
+        (λ w. map (λ source. before_source 1 source w) (name_numbers wanted.now) ++ anew 1 ∷ [])
+        (joined_built kind name.0 (name_numbers wanted.now))
+        → Applies (Both (N.stands nodes.old) (M.stands names.old))
+        (Both (N.stands nodes.new) (M.stands names.new)) N.rule (refusal_of result) c }
     ensures free { AreFree (M.roots names.new) (N.is_taken nodes.new) (N.next nodes.new) }
     ensures few { M.count names.new ≤ M.limit names.new }
     ensures limit { M.limit names.new ≡ M.limit names.old }
@@ -548,7 +584,10 @@ pub(crate) fn apply_silent<N: Nodes, M: Names>(
     requires silent { IsSilent command.now }
     requires free { AreFree (M.roots names.old) (N.is_taken nodes.old) (N.next nodes.old) }
     requires few { M.count names.old ≤ M.limit names.old }
-    ensures applied { (answer : List Item → ℕ → Option Action) (inside : Bool) (s : State) → Both (N.stands nodes.old) (M.stands names.old) s.world → IsApplied (Both (N.stands nodes.new) (M.stands names.new)) s.past (refusal_of result) (apply (setting_of N.rule answer) inside (command_of command.now) s) }
+    ensures applied { (answer : List Item → ℕ → Option Action) (inside : Bool) (s : State)
+        → Both (N.stands nodes.old) (M.stands names.old) s.world
+        → IsApplied (Both (N.stands nodes.new) (M.stands names.new)) s.past (refusal_of result)
+        (apply (setting_of N.rule answer) inside (command_of command.now) s) }
     ensures free { AreFree (M.roots names.new) (N.is_taken nodes.new) (N.next nodes.new) }
     ensures few { M.count names.new ≤ M.limit names.new }
     ensures limit { M.limit names.new ≡ M.limit names.old }

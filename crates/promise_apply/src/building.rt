@@ -1,9 +1,8 @@
 //! Commands that build one node.
-ghost use Rattle.std.specs.Prelude.{◌≡◌, ◌+◌, ◌<◌, ◌≤◌, ◌^◌, [], ◌∷◌, ℕ, List, Option, None, Some, Bool, true, false, IsTrue};
+ghost use Rattle.std.specs.Prelude.{◌≡◌, ◌+◌, ◌<◌, ◌≤◌, ◌^◌, [], ◌∷◌, ℕ, List, Option, None, Some, false, IsTrue};
 ghost use Rattle.kj_base.specs.Places.{Row as RowSeen, row};
 ghost use Rattle.kj_model.specs.World.{World, Promise, held_at};
 ghost use Rattle.kj_model.specs.Nodes.{parts_of, form_at, Task};
-ghost use Rattle.kj_model.specs.Changes.{named};
 ghost use Rattle.kj_model.specs.Effects.{leaf_built, over_built, over_named, detached_built};
 ghost use Rattle.promise_nodes.specs.Shown.{shown};
 ghost use Rattle.promise_nodes.specs.Kept.{AreRowsBuilt, OnlyRises, RisesIn, rows_left};
@@ -64,7 +63,9 @@ pub fn build_leaf<N: Nodes, M: Names>(nodes: &mut N, names: &mut M, name: Name, 
     requires room { M.count names.old < M.limit names.old }
     requires free { AreFree (M.roots names.old) (N.is_taken nodes.old) (N.next nodes.old) }
     ensures number { result.number.0 ≡ N.next nodes.old }
-    ensures stands { (w : World) → Both (N.stands nodes.old) (M.stands names.old) w → IsListless (held_at name.0 w.names) → Both (N.stands nodes.new) (M.stands names.new) (leaf_built name.0 (shown [] form) w) }
+    ensures stands { (w : World)
+        → Both (N.stands nodes.old) (M.stands names.old) w → IsListless (held_at name.0 w.names)
+        → Both (N.stands nodes.new) (M.stands names.new) (leaf_built name.0 (shown [] form) w) }
     ensures free { AreFree (M.roots names.new) (N.is_taken nodes.new) (N.next nodes.new) }
     ensures next { N.next nodes.new ≡ N.next nodes.old + 1 }
     ensures anew { (w : World) → N.stands nodes.old w → form_at (N.next nodes.old) w.nodes ≡ None }
@@ -93,9 +94,14 @@ pub(crate) fn take_source<N: Nodes, M: Names>(
     requires numbers { N.next nodes.old < 2 ^ 63 + 8 }
     requires free { AreFree (M.roots names.old) (N.is_taken nodes.old) (N.next nodes.old) }
     ensures number { result.number.0 ≡ N.next nodes.old }
-    ensures stands { (w : World) → Both (N.stands nodes.old) (M.stands names.old) w → held_at source.0 w.names ≡ Some (Promise root.number.0) → Both (N.stands nodes.new) (M.stands names.new) (over_built (over_shown over) source.0 w) }
+    ensures stands { (w : World) → Both (N.stands nodes.old) (M.stands names.old) w
+        → held_at source.0 w.names ≡ Some (Promise root.number.0)
+        → Both (N.stands nodes.new) (M.stands names.new) (over_built (over_shown over) source.0 w) }
     ensures free { AreFree (M.roots names.new) (N.is_taken nodes.new) (N.next nodes.old) }
-    ensures rest { (more : List RowSeen) (count : ℕ) → 0 < count → AreRowsBuilt (N.next nodes.old) more → IsTrue (N.room nodes.old (row (Some root.number.0) count ∷ more)) → IsTrue (N.room nodes.new (rows_left (N.next nodes.old) count more)) }
+    ensures rest { (more : List RowSeen) (count : ℕ)
+        → 0 < count → AreRowsBuilt (N.next nodes.old) more
+        → IsTrue (N.room nodes.old (row (Some root.number.0) count ∷ more))
+        → IsTrue (N.room nodes.new (rows_left (N.next nodes.old) count more)) }
     ensures roots { HasRoot (M.roots names.old) (M.roots names.new) source.0 None }
     ensures root { N.is_taken nodes.new result.number.0 ≡ false }
     ensures taken { RisesIn (root.number.0 ∷ []) (N.is_taken nodes.old) (N.is_taken nodes.new) }
@@ -125,7 +131,10 @@ pub fn build_over<N: Nodes, M: Names>(
     requires room { M.count names.old ≤ M.limit names.old }
     requires free { AreFree (M.roots names.old) (N.is_taken nodes.old) (N.next nodes.old) }
     ensures number { result.number.0 ≡ N.next nodes.old }
-    ensures stands { (w : World) → Both (N.stands nodes.old) (M.stands names.old) w → held_at source.0 w.names ≡ Some (Promise root.number.0) → IsListless (held_at name.0 (over_built (over_shown over) source.0 w).names) → Both (N.stands nodes.new) (M.stands names.new) (over_named name.0 (over_shown over) source.0 w) }
+    ensures stands { (w : World) → Both (N.stands nodes.old) (M.stands names.old) w
+        → held_at source.0 w.names ≡ Some (Promise root.number.0)
+        → IsListless (held_at name.0 (over_built (over_shown over) source.0 w).names) → Both
+        (N.stands nodes.new) (M.stands names.new) (over_named name.0 (over_shown over) source.0 w) }
     ensures free { AreFree (M.roots names.new) (N.is_taken nodes.new) (N.next nodes.new) }
     ensures next { N.next nodes.new ≡ N.next nodes.old + 1 }
     ensures few { M.count names.new ≤ M.count names.old }
@@ -145,7 +154,9 @@ pub fn detach<N: Nodes, M: Names>(nodes: &mut N, names: &mut M, source: Name, ro
     requires fits { IsTrue (N.room nodes.old (row (Some root.number.0) 1 ∷ [])) }
     requires numbers { N.next nodes.old < 2 ^ 63 + 8 }
     requires free { AreFree (M.roots names.old) (N.is_taken nodes.old) (N.next nodes.old) }
-    ensures stands { (w : World) → Both (N.stands nodes.old) (M.stands names.old) w → held_at source.0 w.names ≡ Some (Promise root.number.0) → Both (N.stands nodes.new) (M.stands names.new) (detached_built source.0 w) }
+    ensures stands { (w : World) → Both (N.stands nodes.old) (M.stands names.old) w
+        → held_at source.0 w.names ≡ Some (Promise root.number.0)
+        → Both (N.stands nodes.new) (M.stands names.new) (detached_built source.0 w) }
     ensures free { AreFree (M.roots names.new) (N.is_taken nodes.new) (N.next nodes.new) }
     ensures next { N.next nodes.new ≡ N.next nodes.old + 1 }
     ensures few { M.count names.new ≤ M.count names.old }

@@ -1,5 +1,5 @@
 //! Whether a command would free the node whose event fires.
-ghost use Rattle.std.specs.Prelude.{◌≡◌, ◌≤◌, ◌+◌, ◌∷◌, [], ℕ, ◌&&◌, vec_capacity};
+ghost use Rattle.std.specs.Prelude.{◌≡◌, ◌≤◌, ◌+◌, ◌&&◌, vec_capacity};
 ghost use Rattle.kj_model.specs.World.{World};
 ghost use Rattle.kj_model.specs.Nodes.{form_at};
 ghost use Rattle.promise_nodes.specs.Kept.{OnlyFalls, OnlyRises, is_unreferenced};
@@ -12,7 +12,8 @@ use promise_walks::{Frame, unname_hub, would_free};
 /// Whether the node whose event fires would go with a tree.
 pub(crate) fn frees_firing<N: Nodes>(nodes: &mut N, frames: &mut Vec<Frame>, root: Link) -> bool
     requires room { N.slots nodes.old + 1 ≤ vec_capacity frames.old }
-    ensures found { (w : World) → N.stands nodes.old w → result ≡ frees_firing w.firing root.number.0 w }
+    ensures found { (w : World) → N.stands nodes.old w
+        → result ≡ frees_firing w.firing root.number.0 w }
     ensures stands { (w : World) → N.stands nodes.old w → N.stands nodes.new w }
     ensures taken { OnlyFalls (N.is_taken nodes.old) (N.is_taken nodes.new) }
     ensures plain { OnlyRises (N.is_plain nodes.old) (N.is_plain nodes.new) }
@@ -29,7 +30,8 @@ pub(crate) fn frees_firing<N: Nodes>(nodes: &mut N, frames: &mut Vec<Frame>, roo
 // The same with a hub that has no name, where it has no branch.
 fn unnamed_frees_firing<N: Nodes>(nodes: &mut N, frames: &mut Vec<Frame>, hub: Link) -> bool
     requires room { N.slots nodes.old + 1 ≤ vec_capacity frames.old }
-    ensures found { (w : World) → N.stands nodes.old w → result ≡ (is_unreferenced (form_at hub.number.0 w.nodes) && frees_firing w.firing hub.number.0 w) }
+    ensures found { (w : World) → N.stands nodes.old w → result
+        ≡ (is_unreferenced (form_at hub.number.0 w.nodes) && frees_firing w.firing hub.number.0 w) }
     ensures stands { (w : World) → N.stands nodes.old w → N.stands nodes.new w }
     ensures taken { OnlyFalls (N.is_taken nodes.old) (N.is_taken nodes.new) }
     ensures plain { OnlyRises (N.is_plain nodes.old) (N.is_plain nodes.new) }
@@ -57,13 +59,10 @@ fn hub_form<N: Nodes>(nodes: &N, hub: Link) -> Option<Form>
 }
 
 /// The same with a hub, once it has no name. It has its name again afterwards.
-pub(crate) fn hub_frees_firing<N: Nodes>(
-    nodes: &mut N,
-    frames: &mut Vec<Frame>,
-    hub: Link,
-) -> bool
+pub(crate) fn hub_frees_firing<N: Nodes>(nodes: &mut N, frames: &mut Vec<Frame>, hub: Link) -> bool
     requires room { N.slots nodes.old + 1 ≤ vec_capacity frames.old }
-    ensures found { (w : World) → N.stands nodes.old w → result ≡ hub_frees_firing w.firing hub.number.0 w }
+    ensures found { (w : World) → N.stands nodes.old w
+        → result ≡ hub_frees_firing w.firing hub.number.0 w }
     ensures stands { (w : World) → N.stands nodes.old w → N.stands nodes.new w }
     ensures taken { OnlyFalls (N.is_taken nodes.old) (N.is_taken nodes.new) }
     ensures plain { OnlyRises (N.is_plain nodes.old) (N.is_plain nodes.new) }

@@ -1,5 +1,5 @@
 //! Commands that build a node which listens, over the tree of a source.
-ghost use Rattle.std.specs.Prelude.{◌≡◌, ◌+◌, ◌<◌, ◌≤◌, ◌^◌, [], ◌∷◌, ℕ, None, Some, IsTrue};
+ghost use Rattle.std.specs.Prelude.{◌≡◌, ◌+◌, ◌<◌, ◌≤◌, ◌^◌, [], ◌∷◌, None, Some, IsTrue};
 ghost use Rattle.kj_base.specs.Commands.{step_of};
 ghost use Rattle.kj_base.specs.Places.{row};
 ghost use Rattle.kj_model.specs.World.{World, Promise, held_at};
@@ -29,7 +29,11 @@ pub fn build_listening<N: Nodes, M: Names>(
     requires numbers { N.next nodes.old < 2 ^ 63 + 8 }
     requires room { M.count names.old ≤ M.limit names.old }
     requires free { AreFree (M.roots names.old) (N.is_taken nodes.old) (N.next nodes.old) }
-    ensures stands { (w : World) → Both (N.stands nodes.old) (M.stands names.old) w → held_at source.0 w.names ≡ Some (Promise root.number.0) → IsListless (held_at name.0 (over_built (over_shown over) source.0 w).names) → Both (N.stands nodes.new) (M.stands names.new) (over_listening name.0 (over_shown over) source.0 w) }
+    ensures stands { (w : World) → Both (N.stands nodes.old) (M.stands names.old) w
+        → held_at source.0 w.names ≡ Some (Promise root.number.0)
+        → IsListless (held_at name.0 (over_built (over_shown over) source.0 w).names)
+        → Both (N.stands nodes.new) (M.stands names.new)
+        (over_listening name.0 (over_shown over) source.0 w) }
     ensures free { AreFree (M.roots names.new) (N.is_taken nodes.new) (N.next nodes.new) }
     ensures few { M.count names.new ≤ M.count names.old }
     ensures limit { M.limit names.new ≡ M.limit names.old }
@@ -57,7 +61,11 @@ pub fn build_chain<N: Nodes, M: Names>(
     requires numbers { N.next nodes.old < 2 ^ 63 + 8 }
     requires room { M.count names.old ≤ M.limit names.old }
     requires free { AreFree (M.roots names.old) (N.is_taken nodes.old) (N.next nodes.old) }
-    ensures stands { (w : World) → Both (N.stands nodes.old) (M.stands names.old) w → held_at source.0 w.names ≡ Some (Promise root.number.0) → IsListless (held_at name.0 (over_built (then_shown value error) source.0 w).names) → Both (N.stands nodes.new) (M.stands names.new) (chain_built name.0 source.0 (step_of value) (step_of error) w) }
+    ensures stands { (w : World) → Both (N.stands nodes.old) (M.stands names.old) w
+        → held_at source.0 w.names ≡ Some (Promise root.number.0)
+        → IsListless (held_at name.0 (over_built (then_shown value error) source.0 w).names)
+        → Both (N.stands nodes.new) (M.stands names.new)
+        (chain_built name.0 source.0 (step_of value) (step_of error) w) }
     ensures free { AreFree (M.roots names.new) (N.is_taken nodes.new) (N.next nodes.new) }
     ensures few { M.count names.new ≤ M.count names.old }
     ensures limit { M.limit names.new ≡ M.limit names.old }
@@ -84,7 +92,10 @@ pub fn build_fork<N: Nodes, M: Names>(
     requires numbers { N.next nodes.old < 2 ^ 63 + 8 }
     requires room { M.count names.old ≤ M.limit names.old }
     requires free { AreFree (M.roots names.old) (N.is_taken nodes.old) (N.next nodes.old) }
-    ensures stands { (w : World) → Both (N.stands nodes.old) (M.stands names.old) w → held_at source.0 w.names ≡ Some (Promise root.number.0) → IsListless (held_at hub.0 (unnamed source.0 w).names) → Both (N.stands nodes.new) (M.stands names.new) (fork_built hub.0 source.0 w) }
+    ensures stands { (w : World) → Both (N.stands nodes.old) (M.stands names.old) w
+        → held_at source.0 w.names ≡ Some (Promise root.number.0)
+        → IsListless (held_at hub.0 (unnamed source.0 w).names)
+        → Both (N.stands nodes.new) (M.stands names.new) (fork_built hub.0 source.0 w) }
     ensures free { AreFree (M.roots names.new) (N.is_taken nodes.new) (N.next nodes.new) }
     ensures few { M.count names.new ≤ M.count names.old }
     ensures limit { M.limit names.new ≡ M.limit names.old }

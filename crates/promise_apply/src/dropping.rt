@@ -1,5 +1,5 @@
 //! What a name holds goes.
-ghost use Rattle.std.specs.Prelude.{◌≡◌, ◌≤◌, ◌+◌, ◌∷◌, [], ℕ, Bool, List, Option, Some, vec_capacity};
+ghost use Rattle.std.specs.Prelude.{◌≡◌, ◌≤◌, ◌+◌, ℕ, Bool, List, Option, Some, vec_capacity};
 ghost use Rattle.kj_base.specs.Commands.{Action, Drop};
 ghost use Rattle.kj_base.specs.Record.{Item};
 ghost use Rattle.kj_model.specs.World.{World, State, Promise, HubOf};
@@ -39,9 +39,12 @@ fn test_promise<N: Nodes, M: Names>(
     name: Name,
     root: Link,
 ) -> Result<(), Refused>
-    requires held { (w : World) → Both (N.stands nodes.old) (M.stands names.now) w → MayDrop name.0 (Some (Promise root.number.0)) w }
+    requires held { (w : World) → Both (N.stands nodes.old) (M.stands names.now) w
+        → MayDrop name.0 (Some (Promise root.number.0)) w }
     requires room { N.slots nodes.old + 1 ≤ vec_capacity frames.old }
-    ensures refusal { (answer : List Item → ℕ → Option Action) (inside : Bool) (s : State) → Both (N.stands nodes.old) (M.stands names.now) s.world → refusal (setting_of N.rule answer) inside (Drop name.0) s ≡ refusal_of result }
+    ensures refusal { (answer : List Item → ℕ → Option Action) (inside : Bool) (s : State)
+        → Both (N.stands nodes.old) (M.stands names.now) s.world
+        → refusal (setting_of N.rule answer) inside (Drop name.0) s ≡ refusal_of result }
     ensures stands { (w : World) → N.stands nodes.old w → N.stands nodes.new w }
     ensures taken { OnlyFalls (N.is_taken nodes.old) (N.is_taken nodes.new) }
     ensures plain { OnlyRises (N.is_plain nodes.old) (N.is_plain nodes.new) }
@@ -65,12 +68,15 @@ fn drop_promise<N: Nodes, M: Names, S: Steps>(
     root: Link,
     steps: &mut S,
 ) -> Result<(), Refused>
-    requires held { (w : World) → Both (N.stands nodes.old) (M.stands names.old) w → MayDrop name.0 (Some (Promise root.number.0)) w }
+    requires held { (w : World) → Both (N.stands nodes.old) (M.stands names.old) w
+        → MayDrop name.0 (Some (Promise root.number.0)) w }
     requires free { AreFree (M.roots names.old) (N.is_taken nodes.old) (N.next nodes.old) }
     requires few { M.count names.old ≤ M.limit names.old }
     requires frames_room { N.slots nodes.old + 1 ≤ vec_capacity frames.old }
     requires search_room { N.slots nodes.old + 1 ≤ vec_capacity search.old }
-    ensures applied { DoesCommand (Both (N.stands nodes.old) (M.stands names.old)) (Both (N.stands nodes.new) (M.stands names.new)) N.rule (refusal_of result) (Drop name.0) (S.told steps.old) (S.told steps.new) }
+    ensures applied { DoesCommand (Both (N.stands nodes.old) (M.stands names.old))
+        (Both (N.stands nodes.new) (M.stands names.new)) N.rule (refusal_of result) (Drop name.0)
+        (S.told steps.old) (S.told steps.new) }
     ensures lacks { S.lacks steps.new ≡ S.lacks steps.old }
     ensures free { AreFree (M.roots names.new) (N.is_taken nodes.new) (N.next nodes.new) }
     ensures few { M.count names.new ≤ M.limit names.new }
@@ -95,9 +101,12 @@ fn test_hub<N: Nodes, M: Names>(
     name: Name,
     hub: Link,
 ) -> Result<(), Refused>
-    requires held { (w : World) → Both (N.stands nodes.old) (M.stands names.now) w → MayDrop name.0 (Some (HubOf hub.number.0)) w }
+    requires held { (w : World) → Both (N.stands nodes.old) (M.stands names.now) w
+        → MayDrop name.0 (Some (HubOf hub.number.0)) w }
     requires room { N.slots nodes.old + 1 ≤ vec_capacity frames.old }
-    ensures refusal { (answer : List Item → ℕ → Option Action) (inside : Bool) (s : State) → Both (N.stands nodes.old) (M.stands names.now) s.world → refusal (setting_of N.rule answer) inside (Drop name.0) s ≡ refusal_of result }
+    ensures refusal { (answer : List Item → ℕ → Option Action) (inside : Bool) (s : State)
+        → Both (N.stands nodes.old) (M.stands names.now) s.world
+        → refusal (setting_of N.rule answer) inside (Drop name.0) s ≡ refusal_of result }
     ensures stands { (w : World) → N.stands nodes.old w → N.stands nodes.new w }
     ensures taken { OnlyFalls (N.is_taken nodes.old) (N.is_taken nodes.new) }
     ensures plain { OnlyRises (N.is_plain nodes.old) (N.is_plain nodes.new) }
@@ -121,12 +130,15 @@ fn drop_hub<N: Nodes, M: Names, S: Steps>(
     hub: Link,
     steps: &mut S,
 ) -> Result<(), Refused>
-    requires held { (w : World) → Both (N.stands nodes.old) (M.stands names.old) w → MayDrop name.0 (Some (HubOf hub.number.0)) w }
+    requires held { (w : World) → Both (N.stands nodes.old) (M.stands names.old) w
+        → MayDrop name.0 (Some (HubOf hub.number.0)) w }
     requires free { AreFree (M.roots names.old) (N.is_taken nodes.old) (N.next nodes.old) }
     requires few { M.count names.old ≤ M.limit names.old }
     requires frames_room { N.slots nodes.old + 1 ≤ vec_capacity frames.old }
     requires search_room { N.slots nodes.old + 1 ≤ vec_capacity search.old }
-    ensures applied { DoesCommand (Both (N.stands nodes.old) (M.stands names.old)) (Both (N.stands nodes.new) (M.stands names.new)) N.rule (refusal_of result) (Drop name.0) (S.told steps.old) (S.told steps.new) }
+    ensures applied { DoesCommand (Both (N.stands nodes.old) (M.stands names.old))
+        (Both (N.stands nodes.new) (M.stands names.new)) N.rule (refusal_of result) (Drop name.0)
+        (S.told steps.old) (S.told steps.new) }
     ensures lacks { S.lacks steps.new ≡ S.lacks steps.old }
     ensures free { AreFree (M.roots names.new) (N.is_taken nodes.new) (N.next nodes.new) }
     ensures few { M.count names.new ≤ M.limit names.new }
@@ -147,10 +159,12 @@ fn drop_hub<N: Nodes, M: Names, S: Steps>(
 
 // A set or a canceler goes, which has nothing.
 fn drop_holder<N: Nodes, M: Names>(nodes: &N, names: &mut M, name: Name) -> Result<(), Refused>
-    requires held { (w : World) → Both (N.stands nodes.now) (M.stands names.old) w → MayDropHolder name.0 w }
+    requires held { (w : World) → Both (N.stands nodes.now) (M.stands names.old) w
+        → MayDropHolder name.0 w }
     requires free { AreFree (M.roots names.old) (N.is_taken nodes.now) (N.next nodes.now) }
     requires few { M.count names.old ≤ M.limit names.old }
-    ensures applied { Applies (Both (N.stands nodes.now) (M.stands names.old)) (Both (N.stands nodes.now) (M.stands names.new)) N.rule (refusal_of result) (Drop name.0) }
+    ensures applied { Applies (Both (N.stands nodes.now) (M.stands names.old))
+        (Both (N.stands nodes.now) (M.stands names.new)) N.rule (refusal_of result) (Drop name.0) }
     ensures free { AreFree (M.roots names.new) (N.is_taken nodes.now) (N.next nodes.now) }
     ensures few { M.count names.new ≤ M.limit names.new }
     ensures limit { M.limit names.new ≡ M.limit names.old }
@@ -174,7 +188,9 @@ pub(crate) fn apply_drop<N: Nodes, M: Names, S: Steps>(
     requires few { M.count names.old ≤ M.limit names.old }
     requires frames_room { N.slots nodes.old + 1 ≤ vec_capacity frames.old }
     requires search_room { N.slots nodes.old + 1 ≤ vec_capacity search.old }
-    ensures applied { DoesCommand (Both (N.stands nodes.old) (M.stands names.old)) (Both (N.stands nodes.new) (M.stands names.new)) N.rule (refusal_of result) (Drop name.0) (S.told steps.old) (S.told steps.new) }
+    ensures applied { DoesCommand (Both (N.stands nodes.old) (M.stands names.old))
+        (Both (N.stands nodes.new) (M.stands names.new)) N.rule (refusal_of result) (Drop name.0)
+        (S.told steps.old) (S.told steps.new) }
     ensures lacks { S.lacks steps.new ≡ S.lacks steps.old }
     ensures free { AreFree (M.roots names.new) (N.is_taken nodes.new) (N.next nodes.new) }
     ensures few { M.count names.new ≤ M.limit names.new }

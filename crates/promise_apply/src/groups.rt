@@ -1,8 +1,6 @@
 //! Commands on sets and cancelers. No keeper of names gives a set tasks or a canceler Wraps yet.
-ghost use Rattle.std.specs.Prelude.{◌≡◌, ◌≤◌, [], ◌∷◌, ℕ, List, Option, None, Some, Bool};
-ghost use Rattle.kj_base.specs.Commands.{Command as CommandSeen, Action, Clear, Cancel};
-ghost use Rattle.kj_base.specs.Record.{Item};
-ghost use Rattle.kj_model.specs.World.{World, State};
+ghost use Rattle.std.specs.Prelude.{◌≡◌, ◌≤◌, [], ◌∷◌, None, Some};
+ghost use Rattle.kj_base.specs.Commands.{Command as CommandSeen, Clear, Cancel};
 ghost use Rattle.kj_model.specs.Nodes.{Ready};
 ghost use Rattle.kj_model.specs.Outcomes.{void};
 ghost use Rattle.kj_model.specs.Changes.{named};
@@ -35,7 +33,10 @@ pub(crate) fn apply_holder<N: Nodes, M: Names>(
     requires root { root_of (Some held) ≡ None }
     requires free { AreFree (M.roots names.old) (N.is_taken nodes.now) (N.next nodes.now) }
     requires few { M.count names.old ≤ M.limit names.old }
-    ensures applied { (c : CommandSeen) → IsCommand c (use_as IsNew name.0 ∷ []) (λ w. []) (named name.0 (held_shown [] held)) → Applies (Both (N.stands nodes.now) (M.stands names.old)) (Both (N.stands nodes.now) (M.stands names.new)) N.rule (refusal_of result) c }
+    ensures applied { (c : CommandSeen)
+        → IsCommand c (use_as IsNew name.0 ∷ []) (λ w. []) (named name.0 (held_shown [] held))
+        → Applies (Both (N.stands nodes.now) (M.stands names.old))
+        (Both (N.stands nodes.now) (M.stands names.new)) N.rule (refusal_of result) c }
     ensures free { AreFree (M.roots names.new) (N.is_taken nodes.now) (N.next nodes.now) }
     ensures few { M.count names.new ≤ M.limit names.new }
     ensures limit { M.limit names.new ≡ M.limit names.old }
@@ -71,7 +72,10 @@ pub(crate) fn apply_empty<N: Nodes, M: Names>(
 ) -> Result<(), Refused>
     requires free { AreFree (M.roots names.old) (N.is_taken nodes.old) (N.next nodes.old) }
     requires few { M.count names.old ≤ M.limit names.old }
-    ensures applied { (c : CommandSeen) → IsCommand c (use_as IsNew name.0 ∷ use_as IsGroupAlone group.0 ∷ []) (λ w. anew 1 ∷ []) (empty_built name.0 group.0) → Applies (Both (N.stands nodes.old) (M.stands names.old)) (Both (N.stands nodes.new) (M.stands names.new)) N.rule (refusal_of result) c }
+    ensures applied { (c : CommandSeen)
+        → IsCommand c (use_as IsNew name.0 ∷ use_as IsGroupAlone group.0 ∷ []) (λ w. anew 1 ∷ [])
+        (empty_built name.0 group.0) → Applies (Both (N.stands nodes.old) (M.stands names.old))
+        (Both (N.stands nodes.new) (M.stands names.new)) N.rule (refusal_of result) c }
     ensures free { AreFree (M.roots names.new) (N.is_taken nodes.new) (N.next nodes.new) }
     ensures few { M.count names.new ≤ M.limit names.new }
     ensures limit { M.limit names.new ≡ M.limit names.old }
@@ -108,7 +112,9 @@ pub(crate) fn apply_clear<N: Nodes, M: Names>(
     names: &M,
     group: Name,
 ) -> Result<(), Refused>
-    ensures applied { Applies (Both (N.stands nodes.now) (M.stands names.now)) (Both (N.stands nodes.now) (M.stands names.now)) N.rule (refusal_of result) (Clear group.0) }
+    ensures applied { Applies (Both (N.stands nodes.now) (M.stands names.now))
+        (Both (N.stands nodes.now) (M.stands names.now)) N.rule (refusal_of result)
+        (Clear group.0) }
 {
     check(
         nodes,
@@ -127,7 +133,9 @@ pub(crate) fn apply_cancel<N: Nodes, M: Names>(
     names: &M,
     canceler: Name,
 ) -> Result<(), Refused>
-    ensures applied { Applies (Both (N.stands nodes.now) (M.stands names.now)) (Both (N.stands nodes.now) (M.stands names.now)) N.rule (refusal_of result) (Cancel canceler.0) }
+    ensures applied { Applies (Both (N.stands nodes.now) (M.stands names.now))
+        (Both (N.stands nodes.now) (M.stands names.now)) N.rule (refusal_of result)
+        (Cancel canceler.0) }
 {
     check(
         nodes,

@@ -1,6 +1,5 @@
 //! Races and joins.
-ghost use Rattle.std.specs.Prelude.{◌≡◌, ◌+◌, ◌<◌, ◌≤◌, ◌^◌, [], ◌∷◌, ◌++◌, ℕ, List, None, Some, false, IsTrue, length};
-ghost use Rattle.std.specs.List.{AllByRecursion};
+ghost use Rattle.std.specs.Prelude.{◌≡◌, ◌+◌, ◌<◌, ◌≤◌, ◌^◌, [], ◌∷◌, ◌++◌, ℕ, List, None, false, IsTrue, length};
 ghost use Rattle.kj_base.specs.Places.{row};
 ghost use Rattle.kj_model.specs.World.{World, held_at};
 ghost use Rattle.kj_model.specs.Nodes.{parts_of};
@@ -31,7 +30,8 @@ pub enum Joined {
 
 fn joined_form(kind: Joined, first: Link, count: u8) -> Form
     requires { FitsJoined kind count }
-    ensures shown { (sources : List ℕ) → length sources ≡ count → first.number.0 + count < 2 ^ 64 → shown [] result ≡ joined_form kind first.number.0 sources }
+    ensures shown { (sources : List ℕ) → length sources ≡ count → first.number.0 + count < 2 ^ 64
+        → shown [] result ≡ joined_form kind first.number.0 sources }
     ensures parts { parts_of (shown [] result) ≡ run_from count first.number.0 }
 {
     match kind {
@@ -54,7 +54,8 @@ fn joined_form(kind: Joined, first: Link, count: u8) -> Form
 
 // The trees of these sources got listeners, in order.
 fn listen_each<N: Nodes>(nodes: &mut N, sources: &[Source])
-    ensures stands { (w : World) → N.stands nodes.old w → N.stands nodes.new (each_listened (source_trees sources.now) w) }
+    ensures stands { (w : World) → N.stands nodes.old w
+        → N.stands nodes.new (each_listened (source_trees sources.now) w) }
     ensures taken { OnlyFalls (N.is_taken nodes.old) (N.is_taken nodes.new) }
     ensures next { N.next nodes.new ≡ N.next nodes.old }
     ensures slots { N.slots nodes.new ≡ N.slots nodes.old }
@@ -69,14 +70,18 @@ fn listen_each<N: Nodes>(nodes: &mut N, sources: &[Source])
 fn build_sides<N: Nodes, M: Names>(nodes: &mut N, names: &mut M, sources: &[Source]) -> Link
     requires sources { AreSources (M.roots names.old) sources.now }
     requires few { length sources.now ≤ MAX_PARTS }
-    requires fits { IsTrue (N.room nodes.old (tree_rows (source_trees sources.now) ++ row None 1 ∷ [])) }
+    requires fits { IsTrue
+        (N.room nodes.old (tree_rows (source_trees sources.now) ++ row None 1 ∷ [])) }
     requires numbers { N.next nodes.old ≤ 2 ^ 63 }
     requires free { AreFree (M.roots names.old) (N.is_taken nodes.old) (N.next nodes.old) }
     ensures number { result.number.0 ≡ N.next nodes.old }
-    ensures stands { (w : World) → Both (N.stands nodes.old) (M.stands names.old) w → AreHeld sources.now w → Both (N.stands nodes.new) (M.stands names.new) (sides_built (source_names sources.now) w) }
+    ensures stands { (w : World) → Both (N.stands nodes.old) (M.stands names.old) w
+        → AreHeld sources.now w → Both (N.stands nodes.new) (M.stands names.new)
+        (sides_built (source_names sources.now) w) }
     ensures free { AreFree (M.roots names.new) (N.is_taken nodes.new) (N.next nodes.old) }
     ensures fits { IsTrue (N.room nodes.new (row None 1 ∷ [])) }
-    ensures sides { AreRoots (N.is_taken nodes.new) (run_from (length sources.now) (N.next nodes.old)) }
+    ensures sides { AreRoots (N.is_taken nodes.new)
+        (run_from (length sources.now) (N.next nodes.old)) }
     ensures built { AreBuilt (N.next nodes.new) (run_from (length sources.now) (N.next nodes.old)) }
     ensures next { N.next nodes.new ≡ N.next nodes.old + length sources.now }
     ensures count { M.count names.new + length sources.now ≡ M.count names.old }
@@ -111,11 +116,16 @@ pub fn build_joined<N: Nodes, M: Names>(
     requires sources { AreSources (M.roots names.old) sources.now }
     requires few { length sources.now ≤ MAX_PARTS }
     requires kind { FitsJoined kind (length sources.now) }
-    requires fits { IsTrue (N.room nodes.old (tree_rows (source_trees sources.now) ++ row None 1 ∷ [])) }
+    requires fits { IsTrue
+        (N.room nodes.old (tree_rows (source_trees sources.now) ++ row None 1 ∷ [])) }
     requires numbers { N.next nodes.old ≤ 2 ^ 63 }
     requires room { M.count names.old + 1 ≤ M.limit names.old + length sources.now }
     requires free { AreFree (M.roots names.old) (N.is_taken nodes.old) (N.next nodes.old) }
-    ensures stands { (w : World) → Both (N.stands nodes.old) (M.stands names.old) w → AreHeld sources.now w → IsListless (held_at name.0 (sides_built (source_names sources.now) w).names) → Both (N.stands nodes.new) (M.stands names.new) (joined_built kind name.0 (source_names sources.now) w) }
+    ensures stands { (w : World)
+        → Both (N.stands nodes.old) (M.stands names.old) w → AreHeld sources.now w
+        → IsListless (held_at name.0 (sides_built (source_names sources.now) w).names)
+        → Both (N.stands nodes.new) (M.stands names.new)
+        (joined_built kind name.0 (source_names sources.now) w) }
     ensures free { AreFree (M.roots names.new) (N.is_taken nodes.new) (N.next nodes.new) }
     ensures few { M.count names.new + length sources.now ≤ M.count names.old + 1 }
     ensures limit { M.limit names.new ≡ M.limit names.old }

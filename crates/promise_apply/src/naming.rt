@@ -1,7 +1,7 @@
 //! The names of a command, and why one of them refuses it.
-ghost use Rattle.std.specs.Prelude.{◌≡◌, ◌+◌, ◌<◌, ◌≤◌, [], ◌∷◌, ◌&&◌, ◌||◌, ◌==◌, not, ℕ, List, Option, None, Some, Bool, true, false, length, option_copied};
+ghost use Rattle.std.specs.Prelude.{◌≡◌, ◌<◌, [], ◌&&◌, ◌||◌, ◌==◌, List, Option, None, Some, true, false};
 ghost use Rattle.std.specs.List.{list_any};
-ghost use Rattle.kj_model.specs.World.{World, Held as Seen, held_at};
+ghost use Rattle.kj_model.specs.World.{World, Held as Seen};
 ghost use Rattle.kj_model.specs.Nodes.{form_at};
 ghost use Rattle.kj_model.specs.Uses.{Use as UseSeen, first_failing, has_role, has_empty_cell, is_name, is_new, is_source, used_before, is_unknown, is_wrong, is_taken, is_promise, is_cell, is_taken_ask, is_hub, is_group, is_canceler, is_live_request, waits_at};
 ghost use Rattle.promise_names.specs.Held.{SeesHeld};
@@ -88,7 +88,8 @@ pub(crate) fn is_there<M: Names>(names: &M, name: Name) -> bool
 }
 
 fn some_new(before: &[Use], name: Name) -> bool
-    ensures { result ≡ list_any (λ (u : Used). is_new (role_shown u.role) && (u.name.0 == name.0)) before.now }
+    ensures { result
+        ≡ list_any (λ (u : Used). is_new (role_shown u.role) && (u.name.0 == name.0)) before.now }
 {
     before
         .iter()
@@ -96,7 +97,8 @@ fn some_new(before: &[Use], name: Name) -> bool
 }
 
 fn some_source(before: &[Use], name: Name) -> bool
-    ensures { result ≡ list_any (λ (u : Used). is_source (role_shown u.role) && (u.name.0 == name.0)) before.now }
+    ensures { result ≡ list_any (λ (u : Used). is_source (role_shown u.role)
+        && (u.name.0 == name.0)) before.now }
 {
     before
         .iter()
@@ -116,7 +118,8 @@ pub(crate) fn is_source_before(before: &[Use], name: Name) -> bool
 }
 
 fn is_unknown_name<M: Names>(names: &M, before: &[Use], used: Use) -> bool
-    ensures { (w : World) → M.stands names.now w → result ≡ is_unknown w (uses_shown before.now) (use_shown used) }
+    ensures { (w : World) → M.stands names.now w
+        → result ≡ is_unknown w (uses_shown before.now) (use_shown used) }
 {
     !is_new_role(used.role)
         && (!is_there(names, used.name)
@@ -187,7 +190,8 @@ fn is_live_request(held: Option<Held>) -> bool
 }
 
 fn is_droppable(held: Option<Held>) -> bool
-    ensures { (seen : Option Seen) → SeesHeld held seen → result ≡ (is_promise seen || is_hub seen || is_group seen || is_canceler seen) }
+    ensures { (seen : Option Seen) → SeesHeld held seen
+        → result ≡ (is_promise seen || is_hub seen || is_group seen || is_canceler seen) }
 {
     is_promise(held) || is_hub(held) || is_group(held) || is_canceler(held)
 }
@@ -211,13 +215,15 @@ fn has_role(role: Role, held: Option<Held>) -> bool
 }
 
 fn is_wrong_name<M: Names>(names: &M, used: Use) -> bool
-    ensures { (w : World) (before : List UseSeen) → M.stands names.now w → result ≡ is_wrong w before (use_shown used) }
+    ensures { (w : World) (before : List UseSeen) → M.stands names.now w
+        → result ≡ is_wrong w before (use_shown used) }
 {
     !has_role(used.role, names.get(used.name))
 }
 
 fn is_waiting<N: Nodes>(nodes: &N, cell: Link) -> bool
-    ensures { (w : World) → N.stands nodes.now w → result ≡ waits_at (form_at cell.number.0 w.nodes) }
+    ensures { (w : World) → N.stands nodes.now w
+        → result ≡ waits_at (form_at cell.number.0 w.nodes) }
 {
     match nodes.form(cell) {
         Some(Form::Cell { outcome: None }) => true,
@@ -227,7 +233,8 @@ fn is_waiting<N: Nodes>(nodes: &N, cell: Link) -> bool
 
 // Whether a set has a cell that waits until it is empty.
 fn has_empty_cell<N: Nodes>(nodes: &N, held: Option<Held>) -> bool
-    ensures { (w : World) (seen : Option Seen) → N.stands nodes.now w → SeesHeld held seen → result ≡ has_empty_cell w.nodes seen }
+    ensures { (w : World) (seen : Option Seen) → N.stands nodes.now w → SeesHeld held seen
+        → result ≡ has_empty_cell w.nodes seen }
 {
     match held {
         Some(
@@ -241,7 +248,8 @@ fn has_empty_cell<N: Nodes>(nodes: &N, held: Option<Held>) -> bool
 }
 
 fn is_taken_name<N: Nodes, M: Names>(nodes: &N, names: &M, before: &[Use], used: Use) -> bool
-    ensures { (w : World) → Both (N.stands nodes.now) (M.stands names.now) w → result ≡ is_taken w (uses_shown before.now) (use_shown used) }
+    ensures { (w : World) → Both (N.stands nodes.now) (M.stands names.now) w
+        → result ≡ is_taken w (uses_shown before.now) (use_shown used) }
 {
     match used.role {
         Role::New => is_there(names, used.name) || is_new_before(before, used.name),
@@ -259,7 +267,8 @@ fn has_fault<N: Nodes, M: Names>(
     before: &[Use],
     used: Use,
 ) -> bool
-    ensures { (w : World) → Both (N.stands nodes.now) (M.stands names.now) w → result ≡ has_fault fault w (uses_shown before.now) (use_shown used) }
+    ensures { (w : World) → Both (N.stands nodes.now) (M.stands names.now) w
+        → result ≡ has_fault fault w (uses_shown before.now) (use_shown used) }
 {
     match fault {
         Fault::Unknown => is_unknown_name(names, before, used),
@@ -275,7 +284,8 @@ pub fn first_fault<N: Nodes, M: Names>(
     fault: Fault,
     uses: &[Use],
 ) -> Option<Name>
-    ensures { (w : World) → Both (N.stands nodes.now) (M.stands names.now) w → name_number result ≡ first_failing (has_fault fault w) [] (uses_shown uses.now) }
+    ensures { (w : World) → Both (N.stands nodes.now) (M.stands names.now) w
+        → name_number result ≡ first_failing (has_fault fault w) [] (uses_shown uses.now) }
 {
     for i in 0..uses.len() {
         if has_fault(nodes, names, fault, &uses[..i], uses[i]) {

@@ -56,7 +56,8 @@ fn stays<M: Names>(names: &M, uses: &[Use], name: Name) -> bool
 
 // One name more, where that of the awaited promise is gone.
 fn awaited_more<M: Names>(names: &M, uses: &[Use]) -> u64
-    ensures more { (w : World) → M.stands names.now w → result ≡ awaited_over w.awaited (uses_shown uses.now) w }
+    ensures more { (w : World) → M.stands names.now w
+        → result ≡ awaited_over w.awaited (uses_shown uses.now) w }
     ensures few { result ≤ 1 }
 {
     match names.awaited() {
@@ -70,7 +71,8 @@ fn names_after<M: Names>(names: &M, uses: &[Use]) -> u64
     requires few { length uses.now ≤ 9 }
     ensures count { M.count names.now + count_new (uses_shown uses.now)
         - count_sources (uses_shown uses.now) ≤ result + 1 }
-    ensures names { (w : World) → M.stands names.now w → ArePassed (uses_shown uses.now) w → result ≡ names_left (uses_shown uses.now) w }
+    ensures names { (w : World) → M.stands names.now w → ArePassed (uses_shown uses.now) w
+        → result ≡ names_left (uses_shown uses.now) w }
 {
     let there = names.len() + news(uses);
     there.saturating_sub(taken_sources(uses)) + awaited_more(names, uses)
@@ -79,8 +81,11 @@ fn names_after<M: Names>(names: &M, uses: &[Use]) -> u64
 fn lacks_room<N: Nodes, M: Names>(nodes: &N, names: &M, uses: &[Use], rows: &[NodeRow]) -> bool
     requires few { length uses.now ≤ 9 }
     requires few_rows { length rows.now ≤ 9 }
-    ensures lacks { (w : World) → Both (N.stands nodes.now) (M.stands names.now) w → ArePassed (uses_shown uses.now) w → result ≡ lacks_room N.rule (uses_shown uses.now) (rows_seen rows.now) w }
-    ensures room { result ≡ false → HasRoom (N.room nodes.now) (N.next nodes.now) (M.count names.now) (M.limit names.now) (uses_shown uses.now) (rows_seen rows.now) }
+    ensures lacks { (w : World)
+        → Both (N.stands nodes.now) (M.stands names.now) w → ArePassed (uses_shown uses.now) w
+        → result ≡ lacks_room N.rule (uses_shown uses.now) (rows_seen rows.now) w }
+    ensures room { result ≡ false → HasRoom (N.room nodes.now) (N.next nodes.now)
+        (M.count names.now) (M.limit names.now) (uses_shown uses.now) (rows_seen rows.now) }
 {
     !nodes.fits(rows)
         || u64::from(names.limit()) < names_after(names, uses)
@@ -89,7 +94,8 @@ fn lacks_room<N: Nodes, M: Names>(nodes: &N, names: &M, uses: &[Use], rows: &[No
 
 // Whether a name refuses.
 fn check_names<N: Nodes, M: Names>(nodes: &N, names: &M, uses: &[Use]) -> Result<(), Refused>
-    ensures { (w : World) → Both (N.stands nodes.now) (M.stands names.now) w → refusal_of result ≡ names_refused (uses_shown uses.now) w }
+    ensures { (w : World) → Both (N.stands nodes.now) (M.stands names.now) w
+        → refusal_of result ≡ names_refused (uses_shown uses.now) w }
 {
     if let Some(name) = first_fault(nodes, names, Fault::Unknown, uses) {
         return Err(Refused::Unknown(name));
@@ -109,7 +115,8 @@ pub(crate) fn check_named<N: Nodes, M: Names>(
     names: &M,
     uses: &[Use],
 ) -> Result<(), Refused>
-    ensures refusal { (w : World) → Both (N.stands nodes.now) (M.stands names.now) w → refusal_of result ≡ refused_first (uses_shown uses.now) w }
+    ensures refusal { (w : World) → Both (N.stands nodes.now) (M.stands names.now) w
+        → refusal_of result ≡ refused_first (uses_shown uses.now) w }
 {
     if names.is_stopped() {
         return Err(Refused::Stopped);
@@ -124,7 +131,9 @@ pub(crate) fn check_count<N: Nodes, M: Names>(
     uses: &[Use],
 ) -> Result<(), Refused>
     requires few { length uses.now ≤ 9 }
-    ensures refusal { (w : World) → Both (N.stands nodes.now) (M.stands names.now) w → refused_first (uses_shown uses.now) w ≡ None → refusal_of result ≡ refused_if (lacks_room N.rule (uses_shown uses.now) [] w) Full }
+    ensures refusal { (w : World) → Both (N.stands nodes.now) (M.stands names.now) w
+        → refused_first (uses_shown uses.now) w ≡ None
+        → refusal_of result ≡ refused_if (lacks_room N.rule (uses_shown uses.now) [] w) Full }
 {
     if lacks_room(nodes, names, uses, &[]) {
         return Err(Refused::Full);
@@ -141,8 +150,10 @@ pub(crate) fn check<N: Nodes, M: Names>(
 ) -> Result<(), Refused>
     requires few { length uses.now ≤ 9 }
     requires few_rows { length rows.now ≤ 9 }
-    ensures refusal { (w : World) → Both (N.stands nodes.now) (M.stands names.now) w → refusal_of result ≡ refused_for N.rule (uses_shown uses.now) (rows_seen rows.now) w }
-    ensures room { OnOk result (HasRoom (N.room nodes.now) (N.next nodes.now) (M.count names.now) (M.limit names.now) (uses_shown uses.now) (rows_seen rows.now)) }
+    ensures refusal { (w : World) → Both (N.stands nodes.now) (M.stands names.now) w
+        → refusal_of result ≡ refused_for N.rule (uses_shown uses.now) (rows_seen rows.now) w }
+    ensures room { OnOk result (HasRoom (N.room nodes.now) (N.next nodes.now) (M.count names.now)
+        (M.limit names.now) (uses_shown uses.now) (rows_seen rows.now)) }
 {
     if names.is_stopped() {
         return Err(Refused::Stopped);

@@ -1,5 +1,5 @@
 //! Branches of hubs.
-ghost use Rattle.std.specs.Prelude.{◌≡◌, ◌+◌, ◌<◌, ◌≤◌, ◌^◌, [], ◌∷◌, ℕ, None, Some, IsTrue};
+ghost use Rattle.std.specs.Prelude.{◌≡◌, ◌+◌, ◌<◌, ◌≤◌, ◌^◌, [], ◌∷◌, None, Some, IsTrue};
 ghost use Rattle.kj_base.specs.Places.{row};
 ghost use Rattle.kj_model.specs.World.{World, HubOf, held_at};
 ghost use Rattle.kj_model.specs.Effects.{branch_built};
@@ -24,7 +24,10 @@ pub fn build_branch<N: Nodes, M: Names>(
     requires numbers { N.next nodes.old < 2 ^ 63 + 8 }
     requires room { M.count names.old < M.limit names.old }
     requires free { AreFree (M.roots names.old) (N.is_taken nodes.old) (N.next nodes.old) }
-    ensures stands { (w : World) → Both (N.stands nodes.old) (M.stands names.old) w → held_at _hub_name.0 w.names ≡ Some (HubOf hub.number.0) → IsListless (held_at name.0 w.names) → Both (N.stands nodes.new) (M.stands names.new) (branch_built name.0 _hub_name.0 w) }
+    ensures stands { (w : World) → Both (N.stands nodes.old) (M.stands names.old) w
+        → held_at _hub_name.0 w.names ≡ Some (HubOf hub.number.0)
+        → IsListless (held_at name.0 w.names)
+        → Both (N.stands nodes.new) (M.stands names.new) (branch_built name.0 _hub_name.0 w) }
     ensures free { AreFree (M.roots names.new) (N.is_taken nodes.new) (N.next nodes.new) }
     ensures few { M.count names.new ≤ M.count names.old + 1 }
     ensures limit { M.limit names.new ≡ M.limit names.old }

@@ -45,7 +45,8 @@ pub(crate) fn root_named<M: Names>(names: &M, source: Name) -> Option<Link>
 
 /// The cell of a fulfiller.
 pub(crate) fn cell_named<M: Names>(names: &M, name: Name) -> Option<Link>
-    ensures { (w : World) (cell : ℕ) → M.stands names.now w → held_at name.0 w.names ≡ Some (CellOf cell) → link_number result ≡ Some cell }
+    ensures { (w : World) (cell : ℕ) → M.stands names.now w
+        → held_at name.0 w.names ≡ Some (CellOf cell) → link_number result ≡ Some cell }
 {
     match names.get(name) {
         Some(Held::CellOf(cell)) => Some(cell),
@@ -55,7 +56,8 @@ pub(crate) fn cell_named<M: Names>(names: &M, name: Name) -> Option<Link>
 
 /// The hub that a name has.
 pub(crate) fn hub_named<M: Names>(names: &M, name: Name) -> Option<Link>
-    ensures { (w : World) (hub : ℕ) → M.stands names.now w → held_at name.0 w.names ≡ Some (HubOf hub) → link_number result ≡ Some hub }
+    ensures { (w : World) (hub : ℕ) → M.stands names.now w
+        → held_at name.0 w.names ≡ Some (HubOf hub) → link_number result ≡ Some hub }
 {
     match names.get(name) {
         Some(Held::HubOf(hub)) => Some(hub),

@@ -1,5 +1,5 @@
 //! Commands with the frees that they tell.
-ghost use Rattle.std.specs.Prelude.{◌≡◌, ◌≤◌, ◌+◌, ℕ, vec_capacity};
+ghost use Rattle.std.specs.Prelude.{◌≡◌, ◌≤◌, ◌+◌, vec_capacity};
 ghost use Rattle.promise_commands.specs.Commands.{command_of};
 ghost use Rattle.promise_commands.specs.Refusals.{refusal_of};
 ghost use Rattle.promise_nodes.specs.Kept.{OnlyRises};
@@ -28,7 +28,9 @@ pub fn apply<N: Nodes, M: Names, S: Steps>(
     requires few { M.count names.old ≤ M.limit names.old }
     requires frames_room { N.slots nodes.old + 1 ≤ vec_capacity frames.old }
     requires search_room { N.slots nodes.old + 1 ≤ vec_capacity search.old }
-    ensures applied { DoesCommand (Both (N.stands nodes.old) (M.stands names.old)) (Both (N.stands nodes.new) (M.stands names.new)) N.rule (refusal_of result) (command_of command.now) (S.told steps.old) (S.told steps.new) }
+    ensures applied { DoesCommand (Both (N.stands nodes.old) (M.stands names.old))
+        (Both (N.stands nodes.new) (M.stands names.new)) N.rule (refusal_of result)
+        (command_of command.now) (S.told steps.old) (S.told steps.new) }
     ensures lacks { S.lacks steps.new ≡ S.lacks steps.old }
     ensures free { AreFree (M.roots names.new) (N.is_taken nodes.new) (N.next nodes.new) }
     ensures few { M.count names.new ≤ M.limit names.new }
@@ -40,9 +42,7 @@ pub fn apply<N: Nodes, M: Names, S: Steps>(
     ensures search_room { vec_capacity search.old ≤ vec_capacity search.new }
 {
     match command {
-        Command::Drop { name } => {
-            apply_drop(nodes, names, frames, search, *name, steps)
-        }
+        Command::Drop { name } => { apply_drop(nodes, names, frames, search, *name, steps) }
         _ => apply_silent(nodes, names, command),
     }
 }

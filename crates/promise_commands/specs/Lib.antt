@@ -3,3 +3,4 @@ pub mod Commands
 pub mod Refusals
 pub mod Scripts
 pub mod Script
+pub mod Telling

@@ -7,6 +7,7 @@ use Rattle.std.proofs.lemmas.List.{append-nil}
 use Rattle.kj_base.specs.declared.outcomes.Outcome.{Outcome}
 use Rattle.kj_base.specs.Commands.{Action, Command}
 use Rattle.kj_base.specs.Record.{Item}
+use Rattle.promise_commands.specs.Telling.{Telling}
 use Rattle.kj_model.specs.World.{World, State, Setting}
 use Rattle.kj_model.specs.Apply.{Refused, apply}
 use Rattle.kj_model.specs.Value.{Given, acted, all_applied, ended, ended_if, rest_applied}
@@ -16,23 +17,23 @@ use Rattle.promise_commands.specs.Refusals.{refusal_of, refused_of}
 use Rattle.promise_commands.specs.declared.command.Command.{Command as CommandCase}
 use Rattle.promise_commands.specs.declared.refused.Refused.{Refused as RefusedCase}
 use Rattle.promise_walks.specs.Values.{Answer, Rule, setting_of}
-use Rattle.promise_walks.proofs.Composed.{tells_none, tells_then}
+use Rattle.promise_walks.proofs.Composed.{hears_none, hears_then}
 use Rattle.promise_eval.specs.Done.{Did, IsDone, commands_of}
 
 -- nothing was done yet
-pub did_none : {E : Type 0} (A : World → Type 0) (rule : Rule) (f : Setting → State → E) (a : Option (List Item)) → Did A A rule f f a a
+pub did_none : {E : Type 0} (A : World → Type 0) (rule : Rule) (f : Setting → State → E) (a : Telling) → Did A A rule f f a a
 did_none A rule f a = record {
   items = [];
-  told = tells_none a;
+  told = hears_none a;
   moves = λ answer s old. record { state = s; stands = old; past_is = sym (append-nil s.past); ends = refl };
 }
 
 -- one part after another
-pub did_then : {E : Type 0} (A B C : World → Type 0) (rule : Rule) (f g h : Setting → State → E) (a b c : Option (List Item))
+pub did_then : {E : Type 0} (A B C : World → Type 0) (rule : Rule) (f g h : Setting → State → E) (a b c : Telling)
     → Did A B rule f g a b → Did B C rule g h b c → Did A C rule f h a c
 did_then A B C rule f g h a b c p q = record {
   items = p.items ++ q.items;
-  told = tells_then a b c p.items q.items p.told q.told;
+  told = hears_then a b c p.items q.items p.told q.told;
   moves = λ answer s old.
       let r = p.moves answer s old in
       let t = q.moves answer r.state r.stands in
@@ -45,7 +46,7 @@ did_then A B C rule f g h a b c p q = record {
 }
 
 -- the same from another definition
-pub did_from : {E : Type 0} (A B : World → Type 0) (rule : Rule) (f g h : Setting → State → E) (a b : Option (List Item))
+pub did_from : {E : Type 0} (A B : World → Type 0) (rule : Rule) (f g h : Setting → State → E) (a b : Telling)
     → ((setting : Setting) (s : State) → f setting s ≡ g setting s) → Did A B rule f h a b → Did A B rule g h a b
 did_from A B rule f g h a b same p = record {
   items = p.items;
@@ -56,7 +57,7 @@ did_from A B rule f g h a b same p = record {
 }
 
 -- a command that had its effect
-pub did_first : (A B : World → Type 0) (rule : Rule) (c : Command) (cs : List Command) (a b : Option (List Item))
+pub did_first : (A B : World → Type 0) (rule : Rule) (c : Command) (cs : List Command) (a b : Telling)
     → DoesCommand A B rule None c a b
     → Did A B rule (λ setting s. all_applied setting (c ∷ cs) s) (λ setting s. all_applied setting cs s) a b
 did_first A B rule c cs a b done = record {
@@ -74,7 +75,7 @@ did_first A B rule c cs a b done = record {
 }
 
 -- a command that was refused
-pub did_refused : (A B : World → Type 0) (rule : Rule) (refused : Refused) (c : Command) (cs : List Command) (a b : Option (List Item))
+pub did_refused : (A B : World → Type 0) (rule : Rule) (refused : Refused) (c : Command) (cs : List Command) (a b : Telling)
     → DoesCommand A B rule (Some refused) c a b
     → Did A B rule (λ setting s. all_applied setting (c ∷ cs) s) (λ setting s. (s, false)) a b
 did_refused A B rule refused c cs a b done = record {
@@ -92,7 +93,7 @@ did_refused A B rule refused c cs a b done = record {
 }
 
 -- commands, and then what an action gives, where the one agrees with the other
-pub did_ended : (A B C : World → Type 0) (rule : Rule) (action : Action) (under_chain b : Bool) (input : Outcome) (given : Given) (x y : Option (List Item))
+pub did_ended : (A B C : World → Type 0) (rule : Rule) (action : Action) (under_chain b : Bool) (input : Outcome) (given : Given) (x y : Telling)
     → Did A B rule (λ setting s. all_applied setting action.commands s) (λ setting s. (s, b)) x y
     → ((s : State) → B s.world → IsDone C s.past given (ended_if b action.ending under_chain input s))
     → Did A C rule (λ setting s. acted setting action under_chain input s) (λ setting s. (s, given)) x y
@@ -131,7 +132,7 @@ some_refused (Ok x) h = absurd (false≢true h)
 some_refused (Err e) h = (refused_of e, refl)
 
 -- a command of a list that was refused
-pub did_refused_at : (A B : World → Type 0) (rule : Rule) (r : Result (Unit {0}) RefusedCase) (commands : List CommandCase) (i : ℕ) (c : CommandCase) (a b : Option (List Item))
+pub did_refused_at : (A B : World → Type 0) (rule : Rule) (r : Result (Unit {0}) RefusedCase) (commands : List CommandCase) (i : ℕ) (c : CommandCase) (a b : Telling)
     → is_err r ≡ true → commands_of (drop i commands) ≡ command_of c ∷ commands_of (drop (i + 1) commands) → DoesCommand A B rule (refusal_of r) (command_of c) a b
     → Did A B rule (λ setting s. all_applied setting (commands_of (drop i commands)) s) (λ setting s. (s, false)) a b
 did_refused_at A B rule r commands i c a b err place done =
@@ -142,7 +143,7 @@ did_refused_at A B rule r commands i c a b err place done =
     (did_refused A B rule some.0 (command_of c) cs a b (subst (λ (o : Option Refused). DoesCommand A B rule o (command_of c) a b) some.1 done))
 
 -- and one that had its effect
-pub did_first_at : (A B : World → Type 0) (rule : Rule) (r : Result (Unit {0}) RefusedCase) (commands : List CommandCase) (i : ℕ) (c : CommandCase) (a b : Option (List Item))
+pub did_first_at : (A B : World → Type 0) (rule : Rule) (r : Result (Unit {0}) RefusedCase) (commands : List CommandCase) (i : ℕ) (c : CommandCase) (a b : Telling)
     → is_err r ≡ false → commands_of (drop i commands) ≡ command_of c ∷ commands_of (drop (i + 1) commands) → DoesCommand A B rule (refusal_of r) (command_of c) a b
     → Did A B rule (λ setting s. all_applied setting (commands_of (drop i commands)) s) (λ setting s. all_applied setting (commands_of (drop (i + 1) commands)) s) a b
 did_first_at A B rule r commands i c a b ok place done =

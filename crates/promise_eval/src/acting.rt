@@ -1,5 +1,5 @@
 //! What a run of a step does.
-ghost use Rattle.std.specs.Prelude.{◌≡◌, ◌≤◌, ◌+◌, ℕ, Ok, is_err, vec_capacity};
+ghost use Rattle.std.specs.Prelude.{◌≡◌, ◌≤◌, ◌+◌, Ok, is_err, vec_capacity};
 ghost use Rattle.kj_base.specs.Counts.{HasLacked};
 ghost use Rattle.kj_model.specs.Value.{acted, all_applied, run_step};
 ghost use Rattle.promise_commands.specs.Commands.{action_of};

@@ -1,5 +1,5 @@
 //! How an action ends.
-ghost use Rattle.std.specs.Prelude.{◌≡◌, ◌≤◌, ◌<◌, ◌+◌, ℕ, Ok, Bool, true, vec_capacity};
+ghost use Rattle.std.specs.Prelude.{◌≡◌, ◌≤◌, ◌<◌, ◌+◌, Ok, vec_capacity};
 ghost use Rattle.kj_model.specs.World.{World, State, held_at};
 ghost use Rattle.kj_model.specs.Outcomes.{failed};
 ghost use Rattle.kj_model.specs.Value.{ended, holds_firing, promise_ended, promise_taken};

@@ -1,5 +1,5 @@
 //! The evaluation of a loop's trees.
-ghost use Rattle.std.specs.Prelude.{◌≡◌, ◌≤◌, ℕ, IfOk, None, is_err};
+ghost use Rattle.std.specs.Prelude.{◌≡◌, ◌≤◌, IfOk, is_err};
 ghost use Rattle.kj_base.specs.Counts.{HasLacked};
 ghost use Rattle.kj_model.specs.Value.{value, value_link};
 ghost use Rattle.promise_nodes.specs.Kept.{OnlyRises};

@@ -3,9 +3,10 @@ use Rattle.std.proofs.Common.{◌≡◌, List, [], Option, refl, sym, ap, ◌∙
 use Rattle.std.proofs.lemmas.List.{append-nil}
 use Rattle.kj_model.specs.World.{World, State}
 use Rattle.kj_base.specs.Record.{Item}
+use Rattle.promise_commands.specs.Telling.{Telling}
 use Rattle.kj_model.specs.Changes.{silent}
 use Rattle.promise_walks.specs.Walks.{Moves, Does}
-use Rattle.promise_walks.proofs.Composed.{tells_none, does_then}
+use Rattle.promise_walks.proofs.Composed.{hears_none, does_then}
 
 -- a change that isn't told behind one that is, and what is left to do then
 pub moves_silent : (A B C : World → Type 0) (f g h : State → State) (change : World → World) (xs : List Item) → Moves A B f (λ s. s) xs
@@ -21,12 +22,12 @@ moves_silent A B C f g h change xs m then s stands =
     }
 
 -- the same with what was told
-pub does_silent : (A B C : World → Type 0) (f g h : State → State) (change : World → World) (a b : Option (List Item)) → Does A B f (λ s. s) a b
+pub does_silent : (A B C : World → Type 0) (f g h : State → State) (change : World → World) (a b : Telling) → Does A B f (λ s. s) a b
     → ((s : State) → A s.world → B (f s).world → C (change (f s).world) × (h (silent change (f s)) ≡ g s)) → Does A C g h a b
 does_silent A B C f g h change a b d then = record { items = d.items; told = d.told; moves = moves_silent A B C f g h change d.items d.moves then }
 
 -- what is left to do then
-does_over : (A B : World → Type 0) (f g : State → State) (a b : Option (List Item)) → Does A B f (λ s. s) a b → Does A B (λ s. g (f s)) g a b
+does_over : (A B : World → Type 0) (f g : State → State) (a b : Telling) → Does A B f (λ s. s) a b → Does A B (λ s. g (f s)) g a b
 does_over A B f g a b d = record {
   items = d.items;
   told = d.told;
@@ -34,23 +35,23 @@ does_over A B f g a b d = record {
 }
 
 -- one after the other
-pub does_both : (A B C : World → Type 0) (f g : State → State) (a b c : Option (List Item)) → Does A B f (λ s. s) a b → Does B C g (λ s. s) b c → Does A C (λ s. g (f s)) (λ s. s) a c
+pub does_both : (A B C : World → Type 0) (f g : State → State) (a b c : Telling) → Does A B f (λ s. s) a b → Does B C g (λ s. s) b c → Does A C (λ s. g (f s)) (λ s. s) a c
 does_both A B C f g a b c d e = does_then A B C (λ s. g (f s)) g (λ s. s) a b c (does_over A B f g a b d) e
 
 -- from fewer worlds
-pub does_less : (A B C : World → Type 0) (f g : State → State) (a b : Option (List Item)) → ((w : World) → B w → A w) → Does A C f g a b → Does B C f g a b
+pub does_less : (A B C : World → Type 0) (f g : State → State) (a b : Telling) → ((w : World) → B w → A w) → Does A C f g a b → Does B C f g a b
 does_less A B C f g a b less d = record { items = d.items; told = d.told; moves = λ s stands. d.moves s (less s.world stands) }
 
 -- nothing is done
-pub does_none : (A : World → Type 0) (a : Option (List Item)) → Does A A (λ s. s) (λ s. s) a a
-does_none A a = record { items = []; told = tells_none a; moves = λ s stands. record { state = s; stands = stands; past_is = sym (append-nil s.past); ends = refl } }
+pub does_none : (A : World → Type 0) (a : Telling) → Does A A (λ s. s) (λ s. s) a a
+does_none A a = record { items = []; told = hears_none a; moves = λ s stands. record { state = s; stands = stands; past_is = sym (append-nil s.past); ends = refl } }
 
 -- nothing is done yet, of which this much is known
-pub does_more : (A B : World → Type 0) (f : State → State) (a : Option (List Item)) → ((w : World) → A w → B w) → Does A B f f a a
-does_more A B f a more = record { items = []; told = tells_none a; moves = λ s stands. record { state = s; stands = more s.world stands; past_is = sym (append-nil s.past); ends = refl } }
+pub does_more : (A B : World → Type 0) (f : State → State) (a : Telling) → ((w : World) → A w → B w) → Does A B f f a a
+does_more A B f a more = record { items = []; told = hears_none a; moves = λ s stands. record { state = s; stands = more s.world stands; past_is = sym (append-nil s.past); ends = refl } }
 
 -- a change after which this is left to do, and more is known
-pub does_on : (P A C Q : World → Type 0) (f g h : State → State) (a b : Option (List Item)) → ((w : World) → P w → A w) → Does A C f (λ s. s) a b → ((s : State) → P s.world → h (f s) ≡ g s) → ((s : State) → P s.world → C (f s).world → Q (f s).world) → Does P Q g h a b
+pub does_on : (P A C Q : World → Type 0) (f g h : State → State) (a b : Telling) → ((w : World) → P w → A w) → Does A C f (λ s. s) a b → ((s : State) → P s.world → h (f s) ≡ g s) → ((s : State) → P s.world → C (f s).world → Q (f s).world) → Does P Q g h a b
 does_on P A C Q f g h a b less d same more = record {
   items = d.items;
   told = d.told;
@@ -65,7 +66,7 @@ does_on P A C Q f g h a b less d same more = record {
 }
 
 -- nothing is left to do
-pub does_ends : (A P B : World → Type 0) (f g : State → State) (a b : Option (List Item)) → ((w : World) → P w → B w) → ((s : State) → P s.world → g s ≡ s) → Does A P f g a b → Does A B f (λ s. s) a b
+pub does_ends : (A P B : World → Type 0) (f g : State → State) (a b : Telling) → ((w : World) → P w → B w) → ((s : State) → P s.world → g s ≡ s) → Does A P f g a b → Does A B f (λ s. s) a b
 does_ends A P B f g a b less none d = record {
   items = d.items;
   told = d.told;
@@ -73,7 +74,7 @@ does_ends A P B f g a b less none d = record {
 }
 
 -- a change that isn't told before one that is
-pub does_behind : (A B C : World → Type 0) (f : State → State) (change : World → World) (a b : Option (List Item)) → ((w : World) → A w → B (change w)) → Does B C f (λ s. s) a b → Does A C (λ s. f (silent change s)) (λ s. s) a b
+pub does_behind : (A B C : World → Type 0) (f : State → State) (change : World → World) (a b : Telling) → ((w : World) → A w → B (change w)) → Does B C f (λ s. s) a b → Does A C (λ s. f (silent change s)) (λ s. s) a b
 does_behind A B C f change a b changed d = record {
   items = d.items;
   told = d.told;
@@ -81,7 +82,7 @@ does_behind A B C f change a b changed d = record {
 }
 
 -- a change after which this is left to do, by what is known then
-pub does_onward : (P A C Q : World → Type 0) (f g h : State → State) (a b : Option (List Item)) → ((w : World) → P w → A w) → Does A C f (λ s. s) a b → ((s : State) → P s.world → C (f s).world → (h (f s) ≡ g s) × Q (f s).world) → Does P Q g h a b
+pub does_onward : (P A C Q : World → Type 0) (f g h : State → State) (a b : Telling) → ((w : World) → P w → A w) → Does A C f (λ s. s) a b → ((s : State) → P s.world → C (f s).world → (h (f s) ≡ g s) × Q (f s).world) → Does P Q g h a b
 does_onward P A C Q f g h a b less d then = record {
   items = d.items;
   told = d.told;

@@ -24,7 +24,8 @@ use promise_walks::{Frame, Given, Parts, free_part, put_bare};
 // A Chain is the leaf with this outcome now, and who listens to it is armed.
 fn become_ready<N: Nodes>(nodes: &mut N, chain: Link, outcome: Outcome)
     requires plain { N.is_plain nodes.old chain.number.0 ≡ true }
-    ensures stands { (w : World) → N.stands nodes.old w → N.stands nodes.new (listened chain.number.0 (put chain.number.0 (Ready outcome) w)) }
+    ensures stands { (w : World) → N.stands nodes.old w
+        → N.stands nodes.new (listened chain.number.0 (put chain.number.0 (Ready outcome) w)) }
     ensures taken { OnlyFalls (N.is_taken nodes.old) (N.is_taken nodes.new) }
     ensures plain { OnlyRises (N.is_plain nodes.old) (N.is_plain nodes.new) }
     ensures next { N.next nodes.new ≡ N.next nodes.old }
@@ -73,8 +74,11 @@ fn rename_awaited<N: Nodes>(nodes: &mut N, old: Link, new: Link)
 // The tree of a root that nothing owns takes the place of a Chain: under its owner, under a name, or awaited.
 fn give_place<N: Nodes, M: Names>(nodes: &mut N, names: &mut M, chain: Link, root: Link)
     requires free { AreFree (M.roots names.old) (N.is_taken nodes.old) (N.next nodes.old) }
-    requires loose { IsLoose (M.roots names.old) (N.is_taken nodes.old) (N.next nodes.old) root.number.0 }
-    ensures stands { (w : World) → Both (N.stands nodes.old) (M.stands names.old) w → IsLive w chain.number.0 → IsReplaceable w chain.number.0 root.number.0 → Both (N.stands nodes.new) (M.stands names.new) (replaced chain.number.0 root.number.0 w) }
+    requires loose { IsLoose (M.roots names.old) (N.is_taken nodes.old) (N.next nodes.old)
+        root.number.0 }
+    ensures stands { (w : World) → Both (N.stands nodes.old) (M.stands names.old) w
+        → IsLive w chain.number.0 → IsReplaceable w chain.number.0 root.number.0
+        → Both (N.stands nodes.new) (M.stands names.new) (replaced chain.number.0 root.number.0 w) }
     ensures free { AreFree (M.roots names.new) (N.is_taken nodes.new) (N.next nodes.new) }
     ensures plain { OnlyRises (N.is_plain nodes.old) (N.is_plain nodes.new) }
     ensures next { N.next nodes.new ≡ N.next nodes.old }
@@ -102,10 +106,21 @@ pub fn end_chain<N: Nodes, M: Names, S: Steps>(
 )
     requires plain { N.is_plain nodes.old chain.number.0 ≡ true }
     requires given { IsGiven (M.roots names.old) (N.is_taken nodes.old) (N.next nodes.old) given }
-    requires sound { IsSound (ground (N.is_taken nodes.old) (N.is_plain nodes.old) (N.next nodes.old) (N.slots nodes.old) (M.roots names.old) (M.count names.old) (M.limit names.old) (vec_capacity frames.old) (vec_capacity search.old)) }
-    ensures does { Does (λ w. Both (N.stands nodes.old) (M.stands names.old) w × MayEnd chain.number.0 link.number.0 (given_of given) w) (Both (N.stands nodes.new) (M.stands names.new)) (chain_ended chain.number.0 link.number.0 (Some (given_of given))) (λ s. s) (S.told steps.old) (S.told steps.new) }
+    requires sound { IsSound (ground (N.is_taken nodes.old) (N.is_plain nodes.old)
+        (N.next nodes.old) (N.slots nodes.old) (M.roots names.old) (M.count names.old)
+        (M.limit names.old) (vec_capacity frames.old) (vec_capacity search.old)) }
+    ensures does { Does (λ w. Both (N.stands nodes.old) (M.stands names.old) w
+        × MayEnd chain.number.0 link.number.0 (given_of given) w)
+        (Both (N.stands nodes.new) (M.stands names.new))
+        (chain_ended chain.number.0 link.number.0 (Some (given_of given))) (λ s. s)
+        (S.told steps.old) (S.told steps.new) }
     ensures lacks { S.lacks steps.new ≡ S.lacks steps.old }
-    ensures kept { Keeps (ground (N.is_taken nodes.old) (N.is_plain nodes.old) (N.next nodes.old) (N.slots nodes.old) (M.roots names.old) (M.count names.old) (M.limit names.old) (vec_capacity frames.old) (vec_capacity search.old)) (ground (N.is_taken nodes.new) (N.is_plain nodes.new) (N.next nodes.new) (N.slots nodes.new) (M.roots names.new) (M.count names.new) (M.limit names.new) (vec_capacity frames.new) (vec_capacity search.new)) }
+    ensures kept { Keeps (ground (N.is_taken nodes.old) (N.is_plain nodes.old)
+        (N.next nodes.old) (N.slots nodes.old) (M.roots names.old)
+        (M.count names.old) (M.limit names.old) (vec_capacity frames.old) (vec_capacity search.old))
+        (ground (N.is_taken nodes.new) (N.is_plain nodes.new) (N.next nodes.new) (N.slots nodes.new)
+        (M.roots names.new) (M.count names.new) (M.limit names.new) (vec_capacity frames.new)
+        (vec_capacity search.new)) }
     ensures over { M.over names.new ≡ M.over names.old }
 {
     free_part(nodes, names, frames, search, link, steps);

@@ -22,10 +22,19 @@ fn close_hub<N: Nodes, M: Names, S: Steps>(
     hub: Link,
     steps: &mut S,
 )
-    requires sound { IsSound (ground (N.is_taken nodes.old) (N.is_plain nodes.old) (N.next nodes.old) (N.slots nodes.old) (M.roots names.old) (M.count names.old) (M.limit names.old) (vec_capacity frames.old) (vec_capacity search.old)) }
-    ensures does { Does (Both (N.stands nodes.old) (M.stands names.old)) (Both (N.stands nodes.new) (M.stands names.new)) (free_hub hub.number.0) (λ s. s) (S.told steps.old) (S.told steps.new) }
+    requires sound { IsSound (ground (N.is_taken nodes.old) (N.is_plain nodes.old)
+        (N.next nodes.old) (N.slots nodes.old) (M.roots names.old) (M.count names.old)
+        (M.limit names.old) (vec_capacity frames.old) (vec_capacity search.old)) }
+    ensures does { Does (Both (N.stands nodes.old) (M.stands names.old))
+        (Both (N.stands nodes.new) (M.stands names.new)) (free_hub hub.number.0) (λ s. s)
+        (S.told steps.old) (S.told steps.new) }
     ensures lacks { S.lacks steps.new ≡ S.lacks steps.old }
-    ensures kept { Keeps (ground (N.is_taken nodes.old) (N.is_plain nodes.old) (N.next nodes.old) (N.slots nodes.old) (M.roots names.old) (M.count names.old) (M.limit names.old) (vec_capacity frames.old) (vec_capacity search.old)) (ground (N.is_taken nodes.new) (N.is_plain nodes.new) (N.next nodes.new) (N.slots nodes.new) (M.roots names.new) (M.count names.new) (M.limit names.new) (vec_capacity frames.new) (vec_capacity search.new)) }
+    ensures kept { Keeps (ground (N.is_taken nodes.old) (N.is_plain nodes.old)
+        (N.next nodes.old) (N.slots nodes.old) (M.roots names.old)
+        (M.count names.old) (M.limit names.old) (vec_capacity frames.old) (vec_capacity search.old))
+        (ground (N.is_taken nodes.new) (N.is_plain nodes.new) (N.next nodes.new) (N.slots nodes.new)
+        (M.roots names.new) (M.count names.new) (M.limit names.new) (vec_capacity frames.new)
+        (vec_capacity search.new)) }
     ensures over { M.over names.new ≡ M.over names.old }
 {
     free_tree(nodes, names, frames, search, Guard::Every, hub, steps);
@@ -39,10 +48,19 @@ pub fn close_hubs<N: Nodes, M: Names, S: Steps>(
     search: &mut Vec<Parts>,
     steps: &mut S,
 )
-    requires sound { IsSound (ground (N.is_taken nodes.old) (N.is_plain nodes.old) (N.next nodes.old) (N.slots nodes.old) (M.roots names.old) (M.count names.old) (M.limit names.old) (vec_capacity frames.old) (vec_capacity search.old)) }
-    ensures does { Does (Both (N.stands nodes.old) (M.stands names.old)) (Both (N.stands nodes.new) (M.stands names.new)) hubs_closed (λ s. s) (S.told steps.old) (S.told steps.new) }
+    requires sound { IsSound (ground (N.is_taken nodes.old) (N.is_plain nodes.old)
+        (N.next nodes.old) (N.slots nodes.old) (M.roots names.old) (M.count names.old)
+        (M.limit names.old) (vec_capacity frames.old) (vec_capacity search.old)) }
+    ensures does { Does (Both (N.stands nodes.old) (M.stands names.old))
+        (Both (N.stands nodes.new) (M.stands names.new)) hubs_closed (λ s. s) (S.told steps.old)
+        (S.told steps.new) }
     ensures lacks { S.lacks steps.new ≡ S.lacks steps.old }
-    ensures kept { Keeps (ground (N.is_taken nodes.old) (N.is_plain nodes.old) (N.next nodes.old) (N.slots nodes.old) (M.roots names.old) (M.count names.old) (M.limit names.old) (vec_capacity frames.old) (vec_capacity search.old)) (ground (N.is_taken nodes.new) (N.is_plain nodes.new) (N.next nodes.new) (N.slots nodes.new) (M.roots names.new) (M.count names.new) (M.limit names.new) (vec_capacity frames.new) (vec_capacity search.new)) }
+    ensures kept { Keeps (ground (N.is_taken nodes.old) (N.is_plain nodes.old)
+        (N.next nodes.old) (N.slots nodes.old) (M.roots names.old)
+        (M.count names.old) (M.limit names.old) (vec_capacity frames.old) (vec_capacity search.old))
+        (ground (N.is_taken nodes.new) (N.is_plain nodes.new) (N.next nodes.new) (N.slots nodes.new)
+        (M.roots names.new) (M.count names.new) (M.limit names.new) (vec_capacity frames.new)
+        (vec_capacity search.new)) }
     ensures over { M.over names.new ≡ M.over names.old }
 {
     let mut left = nodes.next();
@@ -65,10 +83,19 @@ pub fn close_all<N: Nodes, M: Names, S: Steps>(
     steps: &mut S,
 )
     requires over { length (M.over names.old) ≤ 2 }
-    requires sound { IsSound (ground (N.is_taken nodes.old) (N.is_plain nodes.old) (N.next nodes.old) (N.slots nodes.old) (M.roots names.old) (M.count names.old) (M.limit names.old) (vec_capacity frames.old) (vec_capacity search.old)) }
-    ensures does { Does (Both (N.stands nodes.old) (M.stands names.old)) (Both (N.stands nodes.new) (M.stands names.new)) close (λ s. s) (S.told steps.old) (S.told steps.new) }
+    requires sound { IsSound (ground (N.is_taken nodes.old) (N.is_plain nodes.old)
+        (N.next nodes.old) (N.slots nodes.old) (M.roots names.old) (M.count names.old)
+        (M.limit names.old) (vec_capacity frames.old) (vec_capacity search.old)) }
+    ensures does { Does (Both (N.stands nodes.old) (M.stands names.old))
+        (Both (N.stands nodes.new) (M.stands names.new)) close (λ s. s) (S.told steps.old)
+        (S.told steps.new) }
     ensures lacks { S.lacks steps.new ≡ S.lacks steps.old }
-    ensures kept { Keeps (ground (N.is_taken nodes.old) (N.is_plain nodes.old) (N.next nodes.old) (N.slots nodes.old) (M.roots names.old) (M.count names.old) (M.limit names.old) (vec_capacity frames.old) (vec_capacity search.old)) (ground (N.is_taken nodes.new) (N.is_plain nodes.new) (N.next nodes.new) (N.slots nodes.new) (M.roots names.new) (M.count names.new) (M.limit names.new) (vec_capacity frames.new) (vec_capacity search.new)) }
+    ensures kept { Keeps (ground (N.is_taken nodes.old) (N.is_plain nodes.old)
+        (N.next nodes.old) (N.slots nodes.old) (M.roots names.old)
+        (M.count names.old) (M.limit names.old) (vec_capacity frames.old) (vec_capacity search.old))
+        (ground (N.is_taken nodes.new) (N.is_plain nodes.new) (N.next nodes.new) (N.slots nodes.new)
+        (M.roots names.new) (M.count names.new) (M.limit names.new) (vec_capacity frames.new)
+        (vec_capacity search.new)) }
     ensures over { M.over names.new ≡ M.over names.old }
 {
     close_left_over(nodes, names, frames, search, steps);

@@ -22,10 +22,19 @@ fn close_hub_name<N: Nodes, M: Names, S: Steps>(
     hub: Link,
     steps: &mut S,
 )
-    requires sound { IsSound (ground (N.is_taken nodes.old) (N.is_plain nodes.old) (N.next nodes.old) (N.slots nodes.old) (M.roots names.old) (M.count names.old) (M.limit names.old) (vec_capacity frames.old) (vec_capacity search.old)) }
-    ensures does { Does (Both (N.stands nodes.old) (M.stands names.old)) (Both (N.stands nodes.new) (M.stands names.new)) (hub_name_closed hub.number.0) (λ s. s) (S.told steps.old) (S.told steps.new) }
+    requires sound { IsSound (ground (N.is_taken nodes.old) (N.is_plain nodes.old)
+        (N.next nodes.old) (N.slots nodes.old) (M.roots names.old) (M.count names.old)
+        (M.limit names.old) (vec_capacity frames.old) (vec_capacity search.old)) }
+    ensures does { Does (Both (N.stands nodes.old) (M.stands names.old))
+        (Both (N.stands nodes.new) (M.stands names.new)) (hub_name_closed hub.number.0) (λ s. s)
+        (S.told steps.old) (S.told steps.new) }
     ensures lacks { S.lacks steps.new ≡ S.lacks steps.old }
-    ensures kept { Keeps (ground (N.is_taken nodes.old) (N.is_plain nodes.old) (N.next nodes.old) (N.slots nodes.old) (M.roots names.old) (M.count names.old) (M.limit names.old) (vec_capacity frames.old) (vec_capacity search.old)) (ground (N.is_taken nodes.new) (N.is_plain nodes.new) (N.next nodes.new) (N.slots nodes.new) (M.roots names.new) (M.count names.new) (M.limit names.new) (vec_capacity frames.new) (vec_capacity search.new)) }
+    ensures kept { Keeps (ground (N.is_taken nodes.old) (N.is_plain nodes.old)
+        (N.next nodes.old) (N.slots nodes.old) (M.roots names.old)
+        (M.count names.old) (M.limit names.old) (vec_capacity frames.old) (vec_capacity search.old))
+        (ground (N.is_taken nodes.new) (N.is_plain nodes.new) (N.next nodes.new) (N.slots nodes.new)
+        (M.roots names.new) (M.count names.new) (M.limit names.new) (vec_capacity frames.new)
+        (vec_capacity search.new)) }
     ensures over { M.over names.new ≡ M.over names.old }
 {
     unname_hub(nodes, hub);
@@ -42,10 +51,19 @@ fn close_held<N: Nodes, M: Names, S: Steps>(
     held: Held,
     steps: &mut S,
 )
-    requires sound { IsSound (ground (N.is_taken nodes.old) (N.is_plain nodes.old) (N.next nodes.old) (N.slots nodes.old) (M.roots names.old) (M.count names.old) (M.limit names.old) (vec_capacity frames.old) (vec_capacity search.old)) }
-    ensures does { Does (Both (N.stands nodes.old) (M.stands names.old)) (Both (N.stands nodes.new) (M.stands names.new)) (closed_held (held_shown [] held)) (λ s. s) (S.told steps.old) (S.told steps.new) }
+    requires sound { IsSound (ground (N.is_taken nodes.old) (N.is_plain nodes.old)
+        (N.next nodes.old) (N.slots nodes.old) (M.roots names.old) (M.count names.old)
+        (M.limit names.old) (vec_capacity frames.old) (vec_capacity search.old)) }
+    ensures does { Does (Both (N.stands nodes.old) (M.stands names.old))
+        (Both (N.stands nodes.new) (M.stands names.new)) (closed_held (held_shown [] held)) (λ s. s)
+        (S.told steps.old) (S.told steps.new) }
     ensures lacks { S.lacks steps.new ≡ S.lacks steps.old }
-    ensures kept { Keeps (ground (N.is_taken nodes.old) (N.is_plain nodes.old) (N.next nodes.old) (N.slots nodes.old) (M.roots names.old) (M.count names.old) (M.limit names.old) (vec_capacity frames.old) (vec_capacity search.old)) (ground (N.is_taken nodes.new) (N.is_plain nodes.new) (N.next nodes.new) (N.slots nodes.new) (M.roots names.new) (M.count names.new) (M.limit names.new) (vec_capacity frames.new) (vec_capacity search.new)) }
+    ensures kept { Keeps (ground (N.is_taken nodes.old) (N.is_plain nodes.old)
+        (N.next nodes.old) (N.slots nodes.old) (M.roots names.old)
+        (M.count names.old) (M.limit names.old) (vec_capacity frames.old) (vec_capacity search.old))
+        (ground (N.is_taken nodes.new) (N.is_plain nodes.new) (N.next nodes.new) (N.slots nodes.new)
+        (M.roots names.new) (M.count names.new) (M.limit names.new) (vec_capacity frames.new)
+        (vec_capacity search.new)) }
     ensures over { M.over names.new ≡ M.over names.old }
 {
     match held {
@@ -68,10 +86,19 @@ fn close_name<N: Nodes, M: Names, S: Steps>(
     name: Name,
     steps: &mut S,
 )
-    requires sound { IsSound (ground (N.is_taken nodes.old) (N.is_plain nodes.old) (N.next nodes.old) (N.slots nodes.old) (M.roots names.old) (M.count names.old) (M.limit names.old) (vec_capacity frames.old) (vec_capacity search.old)) }
-    ensures does { Does (Both (N.stands nodes.old) (M.stands names.old)) (Both (N.stands nodes.new) (M.stands names.new)) (name_closed name.0) (λ s. s) (S.told steps.old) (S.told steps.new) }
+    requires sound { IsSound (ground (N.is_taken nodes.old) (N.is_plain nodes.old)
+        (N.next nodes.old) (N.slots nodes.old) (M.roots names.old) (M.count names.old)
+        (M.limit names.old) (vec_capacity frames.old) (vec_capacity search.old)) }
+    ensures does { Does (Both (N.stands nodes.old) (M.stands names.old))
+        (Both (N.stands nodes.new) (M.stands names.new)) (name_closed name.0) (λ s. s)
+        (S.told steps.old) (S.told steps.new) }
     ensures lacks { S.lacks steps.new ≡ S.lacks steps.old }
-    ensures kept { Keeps (ground (N.is_taken nodes.old) (N.is_plain nodes.old) (N.next nodes.old) (N.slots nodes.old) (M.roots names.old) (M.count names.old) (M.limit names.old) (vec_capacity frames.old) (vec_capacity search.old)) (ground (N.is_taken nodes.new) (N.is_plain nodes.new) (N.next nodes.new) (N.slots nodes.new) (M.roots names.new) (M.count names.new) (M.limit names.new) (vec_capacity frames.new) (vec_capacity search.new)) }
+    ensures kept { Keeps (ground (N.is_taken nodes.old) (N.is_plain nodes.old)
+        (N.next nodes.old) (N.slots nodes.old) (M.roots names.old)
+        (M.count names.old) (M.limit names.old) (vec_capacity frames.old) (vec_capacity search.old))
+        (ground (N.is_taken nodes.new) (N.is_plain nodes.new) (N.next nodes.new) (N.slots nodes.new)
+        (M.roots names.new) (M.count names.new) (M.limit names.new) (vec_capacity frames.new)
+        (vec_capacity search.new)) }
     ensures over { M.over names.new ≡ M.over names.old }
 {
     let held = names.get(name);
@@ -89,10 +116,19 @@ pub fn close_names<N: Nodes, M: Names, S: Steps>(
     search: &mut Vec<Parts>,
     steps: &mut S,
 )
-    requires sound { IsSound (ground (N.is_taken nodes.old) (N.is_plain nodes.old) (N.next nodes.old) (N.slots nodes.old) (M.roots names.old) (M.count names.old) (M.limit names.old) (vec_capacity frames.old) (vec_capacity search.old)) }
-    ensures does { Does (Both (N.stands nodes.old) (M.stands names.old)) (Both (N.stands nodes.new) (M.stands names.new)) names_closed (λ s. s) (S.told steps.old) (S.told steps.new) }
+    requires sound { IsSound (ground (N.is_taken nodes.old) (N.is_plain nodes.old)
+        (N.next nodes.old) (N.slots nodes.old) (M.roots names.old) (M.count names.old)
+        (M.limit names.old) (vec_capacity frames.old) (vec_capacity search.old)) }
+    ensures does { Does (Both (N.stands nodes.old) (M.stands names.old))
+        (Both (N.stands nodes.new) (M.stands names.new)) names_closed (λ s. s) (S.told steps.old)
+        (S.told steps.new) }
     ensures lacks { S.lacks steps.new ≡ S.lacks steps.old }
-    ensures kept { Keeps (ground (N.is_taken nodes.old) (N.is_plain nodes.old) (N.next nodes.old) (N.slots nodes.old) (M.roots names.old) (M.count names.old) (M.limit names.old) (vec_capacity frames.old) (vec_capacity search.old)) (ground (N.is_taken nodes.new) (N.is_plain nodes.new) (N.next nodes.new) (N.slots nodes.new) (M.roots names.new) (M.count names.new) (M.limit names.new) (vec_capacity frames.new) (vec_capacity search.new)) }
+    ensures kept { Keeps (ground (N.is_taken nodes.old) (N.is_plain nodes.old)
+        (N.next nodes.old) (N.slots nodes.old) (M.roots names.old)
+        (M.count names.old) (M.limit names.old) (vec_capacity frames.old) (vec_capacity search.old))
+        (ground (N.is_taken nodes.new) (N.is_plain nodes.new) (N.next nodes.new) (N.slots nodes.new)
+        (M.roots names.new) (M.count names.new) (M.limit names.new) (vec_capacity frames.new)
+        (vec_capacity search.new)) }
     ensures over { M.over names.new ≡ M.over names.old }
 {
     let mut left = names.len();

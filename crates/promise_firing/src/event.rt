@@ -12,7 +12,8 @@ use promise_nodes::Nodes;
 /// The queue is rewound, and its first event is taken and fires; its node, or number 0 for the wait.
 pub fn take_event<N: Nodes>(nodes: &mut N) -> Option<Link>
     ensures head { (w : World) → N.stands nodes.old w → link_number result ≡ head_of w.queue }
-    ensures stands { (w : World) → N.stands nodes.old w → N.stands nodes.new (event_taken (link_number result) w) }
+    ensures stands { (w : World) → N.stands nodes.old w
+        → N.stands nodes.new (event_taken (link_number result) w) }
     ensures taken { OnlyFalls (N.is_taken nodes.old) (N.is_taken nodes.new) }
     ensures listed { OnlyFalls (N.is_listed nodes.old) (N.is_listed nodes.new) }
     ensures plain { OnlyRises (N.is_plain nodes.old) (N.is_plain nodes.new) }

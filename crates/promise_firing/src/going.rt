@@ -27,7 +27,8 @@ fn has_hub(form: &Form) -> bool
 
 fn is_branch<N: Nodes>(nodes: &N, node: Link) -> bool
     ensures unlisted { result ≡ false → N.is_listed nodes.now node.number.0 ≡ false }
-    ensures branch { result ≡ true → (w : World) → N.stands nodes.now w → IsPlain (form_at node.number.0 w.nodes) → ⊥ }
+    ensures branch { result ≡ true → (w : World) → N.stands nodes.now w
+        → IsPlain (form_at node.number.0 w.nodes) → ⊥ }
 {
     match nodes.form(node) {
         Some(form) => has_hub(form),
@@ -43,7 +44,9 @@ pub(crate) fn drop_plain<N: Nodes, M: Names, S: Steps>(
     steps: &mut S,
 )
     requires plain { N.is_plain nodes.old node.number.0 ≡ true }
-    ensures does { Does (Both (N.stands nodes.old) (M.stands _names.now)) (Both (N.stands nodes.new) (M.stands _names.now)) (gone node.number.0) (λ s. s) (S.told steps.old) (S.told steps.new) }
+    ensures does { Does (Both (N.stands nodes.old) (M.stands _names.now))
+        (Both (N.stands nodes.new) (M.stands _names.now)) (gone node.number.0) (λ s. s)
+        (S.told steps.old) (S.told steps.new) }
     ensures lacks { S.lacks steps.new ≡ S.lacks steps.old }
     ensures taken { OnlyFalls (N.is_taken nodes.old) (N.is_taken nodes.new) }
     ensures plain { OnlyRises (N.is_plain nodes.old) (N.is_plain nodes.new) }

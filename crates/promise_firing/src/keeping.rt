@@ -28,10 +28,20 @@ pub fn keep_outcome<N: Nodes, M: Names, S: Steps>(
     outcome: Outcome,
     steps: &mut S,
 )
-    requires sound { IsSound (ground (N.is_taken nodes.old) (N.is_plain nodes.old) (N.next nodes.old) (N.slots nodes.old) (M.roots names.old) (M.count names.old) (M.limit names.old) (vec_capacity frames.old) (vec_capacity search.old)) }
-    ensures does { Does (λ w. Both (N.stands nodes.old) (M.stands names.old) w × Outlives node.number.0 tree.number.0 w) (Both (N.stands nodes.new) (M.stands names.new)) (kept_then (announced DepthFirst node.number.0) node.number.0 tree.number.0 (Some outcome)) (λ s. s) (S.told steps.old) (S.told steps.new) }
+    requires sound { IsSound (ground (N.is_taken nodes.old) (N.is_plain nodes.old)
+        (N.next nodes.old) (N.slots nodes.old) (M.roots names.old) (M.count names.old)
+        (M.limit names.old) (vec_capacity frames.old) (vec_capacity search.old)) }
+    ensures does { Does (λ w. Both (N.stands nodes.old) (M.stands names.old) w
+        × Outlives node.number.0 tree.number.0 w) (Both (N.stands nodes.new) (M.stands names.new))
+        (kept_then (announced DepthFirst node.number.0) node.number.0 tree.number.0 (Some outcome))
+        (λ s. s) (S.told steps.old) (S.told steps.new) }
     ensures lacks { S.lacks steps.new ≡ S.lacks steps.old }
-    ensures kept { Keeps (ground (N.is_taken nodes.old) (N.is_plain nodes.old) (N.next nodes.old) (N.slots nodes.old) (M.roots names.old) (M.count names.old) (M.limit names.old) (vec_capacity frames.old) (vec_capacity search.old)) (ground (N.is_taken nodes.new) (N.is_plain nodes.new) (N.next nodes.new) (N.slots nodes.new) (M.roots names.new) (M.count names.new) (M.limit names.new) (vec_capacity frames.new) (vec_capacity search.new)) }
+    ensures kept { Keeps (ground (N.is_taken nodes.old) (N.is_plain nodes.old)
+        (N.next nodes.old) (N.slots nodes.old) (M.roots names.old)
+        (M.count names.old) (M.limit names.old) (vec_capacity frames.old) (vec_capacity search.old))
+        (ground (N.is_taken nodes.new) (N.is_plain nodes.new) (N.next nodes.new) (N.slots nodes.new)
+        (M.roots names.new) (M.count names.new) (M.limit names.new) (vec_capacity frames.new)
+        (vec_capacity search.new)) }
     ensures over { M.over names.new ≡ M.over names.old }
 {
     free_part(nodes, names, frames, search, tree, steps);

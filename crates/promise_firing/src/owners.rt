@@ -34,7 +34,9 @@ pub enum Above {
 }
 
 fn above_of(owner: Link, form: &Form) -> Above
-    ensures fires { (setting : Setting) (branches : List ℕ) (side tree : ℕ) (s : State) → side_fired_under setting owner.number.0 (shown branches form.now) side tree s ≡ fired_under setting result side tree s }
+    ensures fires { (setting : Setting) (branches : List ℕ) (side tree : ℕ) (s : State)
+        → side_fired_under setting owner.number.0 (shown branches form.now) side tree s
+        ≡ fired_under setting result side tree s }
     ensures above { (branches : List ℕ) → IsAbove result owner.number.0 (shown branches form.now) }
 {
     match form {
@@ -64,8 +66,12 @@ fn above_of(owner: Link, form: &Form) -> Above
 
 /// What owns a live Side.
 pub fn above_side<N: Nodes>(nodes: &N, side: Link) -> Above
-    ensures fires { (setting : Setting) (tree : ℕ) (s : State) → N.stands nodes.now s.world → IsLive s.world side.number.0 → side_fired_by setting (owner_of side.number.0 s.world.nodes) side.number.0 tree s ≡ fired_under setting result side.number.0 tree s }
-    ensures above { (w : World) → N.stands nodes.now w → IsLive w side.number.0 → IsOwner result (owner_of side.number.0 w.nodes) }
+    ensures fires { (setting : Setting) (tree : ℕ) (s : State)
+        → N.stands nodes.now s.world → IsLive s.world side.number.0
+        → side_fired_by setting (owner_of side.number.0 s.world.nodes) side.number.0 tree s
+        ≡ fired_under setting result side.number.0 tree s }
+    ensures above { (w : World) → N.stands nodes.now w → IsLive w side.number.0
+        → IsOwner result (owner_of side.number.0 w.nodes) }
 {
     let Some(owner) = nodes.owner(side) else {
         return Above::Nothing;

@@ -29,7 +29,8 @@ fn tree_of_stage(stage: &Stage) -> Option<Link>
 
 // The tree of a Side, where it has one.
 fn side_tree<N: Nodes>(nodes: &N, side: Link) -> Option<Link>
-    ensures tree { (w : World) → N.stands nodes.now w → tree_of (form_at side.number.0 w.nodes) ≡ link_number result }
+    ensures tree { (w : World) → N.stands nodes.now w
+        → tree_of (form_at side.number.0 w.nodes) ≡ link_number result }
     ensures plain { IfSome result (λ tree. N.is_plain nodes.now side.number.0 ≡ true) }
 {
     match nodes.form(side) {
@@ -47,10 +48,20 @@ fn empty_side<N: Nodes, M: Names, S: Steps>(
     side: Link,
     steps: &mut S,
 )
-    requires sound { IsSound (ground (N.is_taken nodes.old) (N.is_plain nodes.old) (N.next nodes.old) (N.slots nodes.old) (M.roots names.old) (M.count names.old) (M.limit names.old) (vec_capacity frames.old) (vec_capacity search.old)) }
-    ensures does { Does (λ w. Both (N.stands nodes.old) (M.stands names.old) w × MayBeSide (form_at side.number.0 w.nodes)) (Both (N.stands nodes.new) (M.stands names.new)) (side_emptied side.number.0) (λ s. s) (S.told steps.old) (S.told steps.new) }
+    requires sound { IsSound (ground (N.is_taken nodes.old) (N.is_plain nodes.old)
+        (N.next nodes.old) (N.slots nodes.old) (M.roots names.old) (M.count names.old)
+        (M.limit names.old) (vec_capacity frames.old) (vec_capacity search.old)) }
+    ensures does { Does (λ w. Both (N.stands nodes.old) (M.stands names.old) w
+        × MayBeSide (form_at side.number.0 w.nodes))
+        (Both (N.stands nodes.new) (M.stands names.new)) (side_emptied side.number.0) (λ s. s)
+        (S.told steps.old) (S.told steps.new) }
     ensures lacks { S.lacks steps.new ≡ S.lacks steps.old }
-    ensures kept { Keeps (ground (N.is_taken nodes.old) (N.is_plain nodes.old) (N.next nodes.old) (N.slots nodes.old) (M.roots names.old) (M.count names.old) (M.limit names.old) (vec_capacity frames.old) (vec_capacity search.old)) (ground (N.is_taken nodes.new) (N.is_plain nodes.new) (N.next nodes.new) (N.slots nodes.new) (M.roots names.new) (M.count names.new) (M.limit names.new) (vec_capacity frames.new) (vec_capacity search.new)) }
+    ensures kept { Keeps (ground (N.is_taken nodes.old) (N.is_plain nodes.old)
+        (N.next nodes.old) (N.slots nodes.old) (M.roots names.old)
+        (M.count names.old) (M.limit names.old) (vec_capacity frames.old) (vec_capacity search.old))
+        (ground (N.is_taken nodes.new) (N.is_plain nodes.new) (N.next nodes.new) (N.slots nodes.new)
+        (M.roots names.new) (M.count names.new) (M.limit names.new) (vec_capacity frames.new)
+        (vec_capacity search.new)) }
     ensures over { M.over names.new ≡ M.over names.old }
 {
     match side_tree(nodes, side) {
@@ -78,7 +89,11 @@ fn loser_of(left: Link, side: Link) -> Link
 
 // A Side has fired, and it is the first of its Race.
 fn decide<N: Nodes>(nodes: &mut N, race: Link, left: Link, side: Link, tree: Link)
-    ensures stands { (w : World) → N.stands nodes.old w → form_at side.number.0 w.nodes ≡ Some (Side (Waits tree.number.0)) → form_at race.number.0 w.nodes ≡ Some (Race left.number.0 (next_number left.number.0) None) → N.stands nodes.new (race_decided race.number.0 left.number.0 side.number.0 tree.number.0 w) }
+    ensures stands { (w : World)
+        → N.stands nodes.old w → form_at side.number.0 w.nodes ≡ Some (Side (Waits tree.number.0))
+        → form_at race.number.0 w.nodes ≡ Some (Race left.number.0 (next_number left.number.0) None)
+        → N.stands nodes.new
+        (race_decided race.number.0 left.number.0 side.number.0 tree.number.0 w) }
     ensures taken { OnlyFalls (N.is_taken nodes.old) (N.is_taken nodes.new) }
     ensures plain { OnlyRises (N.is_plain nodes.old) (N.is_plain nodes.new) }
     ensures next { N.next nodes.new ≡ N.next nodes.old }
@@ -103,10 +118,21 @@ pub fn win_race<N: Nodes, M: Names, S: Steps>(
     tree: Link,
     steps: &mut S,
 )
-    requires sound { IsSound (ground (N.is_taken nodes.old) (N.is_plain nodes.old) (N.next nodes.old) (N.slots nodes.old) (M.roots names.old) (M.count names.old) (M.limit names.old) (vec_capacity frames.old) (vec_capacity search.old)) }
-    ensures does { Does (λ w. Both (N.stands nodes.old) (M.stands names.old) w × MayWin race.number.0 left.number.0 side.number.0 tree.number.0 w) (Both (N.stands nodes.new) (M.stands names.new)) (race_won race.number.0 left.number.0 (next_number left.number.0) side.number.0 (loser left.number.0 side.number.0) tree.number.0) (λ s. s) (S.told steps.old) (S.told steps.new) }
+    requires sound { IsSound (ground (N.is_taken nodes.old) (N.is_plain nodes.old)
+        (N.next nodes.old) (N.slots nodes.old) (M.roots names.old) (M.count names.old)
+        (M.limit names.old) (vec_capacity frames.old) (vec_capacity search.old)) }
+    ensures does { Does (λ w. Both (N.stands nodes.old) (M.stands names.old) w
+        × MayWin race.number.0 left.number.0 side.number.0 tree.number.0 w)
+        (Both (N.stands nodes.new) (M.stands names.new)) (race_won race.number.0 left.number.0
+        (next_number left.number.0) side.number.0 (loser left.number.0 side.number.0) tree.number.0)
+        (λ s. s) (S.told steps.old) (S.told steps.new) }
     ensures lacks { S.lacks steps.new ≡ S.lacks steps.old }
-    ensures kept { Keeps (ground (N.is_taken nodes.old) (N.is_plain nodes.old) (N.next nodes.old) (N.slots nodes.old) (M.roots names.old) (M.count names.old) (M.limit names.old) (vec_capacity frames.old) (vec_capacity search.old)) (ground (N.is_taken nodes.new) (N.is_plain nodes.new) (N.next nodes.new) (N.slots nodes.new) (M.roots names.new) (M.count names.new) (M.limit names.new) (vec_capacity frames.new) (vec_capacity search.new)) }
+    ensures kept { Keeps (ground (N.is_taken nodes.old) (N.is_plain nodes.old)
+        (N.next nodes.old) (N.slots nodes.old) (M.roots names.old)
+        (M.count names.old) (M.limit names.old) (vec_capacity frames.old) (vec_capacity search.old))
+        (ground (N.is_taken nodes.new) (N.is_plain nodes.new) (N.next nodes.new) (N.slots nodes.new)
+        (M.roots names.new) (M.count names.new) (M.limit names.new) (vec_capacity frames.new)
+        (vec_capacity search.new)) }
     ensures over { M.over names.new ≡ M.over names.old }
 {
     decide(nodes, race, left, side, tree);

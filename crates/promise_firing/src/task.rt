@@ -20,7 +20,9 @@ use promise_walks::{Frame, Parts, free_part, put_bare};
 fn leave_set<N: Nodes, M: Names>(nodes: &mut N, names: &mut M, task: Link)
     requires plain { N.is_plain nodes.old task.number.0 ≡ true }
     requires over { length (M.over names.old) < 2 }
-    ensures stands { (w : World) → Both (N.stands nodes.old) (M.stands names.old) w → Both (N.stands nodes.new) (M.stands names.new) (without_left_over task.number.0 (set_left task.number.0 (put task.number.0 (Task None) w))) }
+    ensures stands { (w : World) → Both (N.stands nodes.old) (M.stands names.old) w
+        → Both (N.stands nodes.new) (M.stands names.new) (without_left_over task.number.0
+        (set_left task.number.0 (put task.number.0 (Task None) w))) }
     ensures taken { OnlyFalls (N.is_taken nodes.old) (N.is_taken nodes.new) }
     ensures plain { OnlyRises (N.is_plain nodes.old) (N.is_plain nodes.new) }
     ensures next { N.next nodes.new ≡ N.next nodes.old }
@@ -49,10 +51,19 @@ pub fn end_task<N: Nodes, M: Names, S: Steps>(
 )
     requires plain { N.is_plain nodes.old task.number.0 ≡ true }
     requires over { length (M.over names.old) < 2 }
-    requires sound { IsSound (ground (N.is_taken nodes.old) (N.is_plain nodes.old) (N.next nodes.old) (N.slots nodes.old) (M.roots names.old) (M.count names.old) (M.limit names.old) (vec_capacity frames.old) (vec_capacity search.old)) }
-    ensures does { EndsTask (Both (N.stands nodes.old) (M.stands names.old)) (Both (N.stands nodes.new) (M.stands names.new)) task.number.0 tree.number.0 (S.told steps.old) (S.told steps.new) }
+    requires sound { IsSound (ground (N.is_taken nodes.old) (N.is_plain nodes.old)
+        (N.next nodes.old) (N.slots nodes.old) (M.roots names.old) (M.count names.old)
+        (M.limit names.old) (vec_capacity frames.old) (vec_capacity search.old)) }
+    ensures does { EndsTask (Both (N.stands nodes.old) (M.stands names.old))
+        (Both (N.stands nodes.new) (M.stands names.new)) task.number.0 tree.number.0
+        (S.told steps.old) (S.told steps.new) }
     ensures lacks { S.lacks steps.new ≡ S.lacks steps.old }
-    ensures kept { Keeps (ground (N.is_taken nodes.old) (N.is_plain nodes.old) (N.next nodes.old) (N.slots nodes.old) (M.roots names.old) (M.count names.old) (M.limit names.old) (vec_capacity frames.old) (vec_capacity search.old)) (ground (N.is_taken nodes.new) (N.is_plain nodes.new) (N.next nodes.new) (N.slots nodes.new) (M.roots names.new) (M.count names.new) (M.limit names.new) (vec_capacity frames.new) (vec_capacity search.new)) }
+    ensures kept { Keeps (ground (N.is_taken nodes.old) (N.is_plain nodes.old)
+        (N.next nodes.old) (N.slots nodes.old) (M.roots names.old)
+        (M.count names.old) (M.limit names.old) (vec_capacity frames.old) (vec_capacity search.old))
+        (ground (N.is_taken nodes.new) (N.is_plain nodes.new) (N.next nodes.new) (N.slots nodes.new)
+        (M.roots names.new) (M.count names.new) (M.limit names.new) (vec_capacity frames.new)
+        (vec_capacity search.new)) }
     ensures over { M.over names.new ≡ dropped task.number.0 (M.over names.old) }
 {
     free_part(nodes, names, frames, search, tree, steps);

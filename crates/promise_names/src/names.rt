@@ -93,7 +93,8 @@ pub trait Names {
     fn set(&mut self, name: Name, held: Held)
         requires room { count self.old < limit self.old }
         requires kind { IsLoopsOwn held }
-        ensures stands { (w : World) → stands self.old w → IsListless (held_at name.0 w.names) → stands self.new (named name.0 (held_shown [] held) w) }
+        ensures stands { (w : World) → stands self.old w → IsListless (held_at name.0 w.names)
+            → stands self.new (named name.0 (held_shown [] held) w) }
         ensures root { HasRoot (roots self.old) (roots self.new) name.0 (root_of (Some held)) }
         ensures few { count self.new ≤ count self.old + 1 }
         ensures limit { limit self.new ≡ limit self.old }
@@ -111,15 +112,18 @@ pub trait Names {
     /// The promise of a tree, where a name has it or it is awaited, has another tree now.
     fn rename(&mut self, old: Link, new: Link)
         requires apart { AreApart (roots self.old) }
-        ensures stands { (w : World) → stands self.old w → stands self.new (roots_replaced old.number.0 new.number.0 w) }
-        ensures roots { (name : ℕ) → roots self.new name ≡ root_renamed old.number.0 new.number.0 (roots self.old name) }
+        ensures stands { (w : World) → stands self.old w
+            → stands self.new (roots_replaced old.number.0 new.number.0 w) }
+        ensures roots { (name : ℕ)
+            → roots self.new name ≡ root_renamed old.number.0 new.number.0 (roots self.old name) }
         ensures count { count self.new ≡ count self.old }
         ensures limit { limit self.new ≡ limit self.old }
         ensures over { over self.new ≡ over self.old };
 
     /// A node goes: a Wrap leaves its canceler, and the cell of an ask that waits is abandoned. Its slot is only a hint.
     fn left(&mut self, node: Link, leaving: Leaving)
-        ensures stands { (w : World) → stands self.old w → stands self.new (left_world node.number.0 leaving w) }
+        ensures stands { (w : World) → stands self.old w
+            → stands self.new (left_world node.number.0 leaving w) }
         ensures roots { (name : ℕ) → roots self.new name ≡ roots self.old name }
         ensures count { count self.new ≡ count self.old }
         ensures limit { limit self.new ≡ limit self.old }
@@ -174,7 +178,8 @@ pub trait Names {
     /// A tree is left over, behind the others.
     fn leave_over(&mut self, tree: Link)
         requires room { length (over self.old) < 2 }
-        ensures stands { (w : World) → stands self.old w → stands self.new (with_left_over tree.number.0 w) }
+        ensures stands { (w : World) → stands self.old w
+            → stands self.new (with_left_over tree.number.0 w) }
         ensures roots { (name : ℕ) → roots self.new name ≡ roots self.old name }
         ensures count { count self.new ≡ count self.old }
         ensures limit { limit self.new ≡ limit self.old }
@@ -183,7 +188,8 @@ pub trait Names {
     /// A tree is left over, before the others.
     fn lose(&mut self, tree: Link)
         requires room { length (over self.old) < 2 }
-        ensures stands { (w : World) → stands self.old w → stands self.new (with_lost tree.number.0 w) }
+        ensures stands { (w : World) → stands self.old w
+            → stands self.new (with_lost tree.number.0 w) }
         ensures roots { (name : ℕ) → roots self.new name ≡ roots self.old name }
         ensures count { count self.new ≡ count self.old }
         ensures limit { limit self.new ≡ limit self.old }
@@ -191,14 +197,16 @@ pub trait Names {
 
     /// A tree is no longer left over.
     fn take_over(&mut self, tree: Link)
-        ensures stands { (w : World) → stands self.old w → stands self.new (without_left_over tree.number.0 w) }
+        ensures stands { (w : World) → stands self.old w
+            → stands self.new (without_left_over tree.number.0 w) }
         ensures roots { (name : ℕ) → roots self.new name ≡ roots self.old name }
         ensures count { count self.new ≡ count self.old }
         ensures limit { limit self.new ≡ limit self.old }
         ensures over { over self.new ≡ dropped tree.number.0 (over self.old) };
 
     /// Nodes and the queue don't matter.
-    ghost nodes_free: { (names : Self) (w v : World) → SameNames w v → stands names w → stands names v };
+    ghost nodes_free: { (names : Self) (w v : World) → SameNames w v → stands names w
+        → stands names v };
 
     /// The trees that are left over.
     ghost over_is: { (names : Self) (w : World) → stands names w → w.left_over ≡ over names };
@@ -210,10 +218,12 @@ pub trait Names {
     ghost once: { (names : Self) (w : World) → stands names w → AreOnce w.names };
 
     /// How many names there may be in each world that it stands for.
-    ghost limit_is: { (names : Self) (w : World) → stands names w → w.limits.names + 1 ≡ limit names };
+    ghost limit_is: { (names : Self) (w : World) → stands names w
+        → w.limits.names + 1 ≡ limit names };
 
     /// The root of each promise in each world that it stands for.
-    ghost roots_are: { (names : Self) (w : World) (name root : ℕ) → stands names w → held_at name w.names ≡ Some (Promise root) → roots names name ≡ Some root };
+    ghost roots_are: { (names : Self) (w : World) (name root : ℕ) → stands names w
+        → held_at name w.names ≡ Some (Promise root) → roots names name ≡ Some root };
 
     /// No asks, ended requests or abandoned cells are listed.
     ghost none_listed: { (names : Self) (w : World) → stands names w → HasNoneListed w };
@@ -223,8 +233,10 @@ pub trait Names {
         → held_at name w.names ≡ Some (RequestOf node) → ⊥ };
 
     /// No set has a task, and no canceler a Wrap.
-    ghost no_members: { (names : Self) (w : World) (name : ℕ) → stands names w → members_of (held_at name w.names) ≡ [] };
+    ghost no_members: { (names : Self) (w : World) (name : ℕ) → stands names w
+        → members_of (held_at name w.names) ≡ [] };
 
     /// No set has a task.
-    ghost no_tasks: { (names : Self) (w : World) (n : ℕ) → stands names w → group_of n w.names ≡ None };
+    ghost no_tasks: { (names : Self) (w : World) (n : ℕ) → stands names w
+        → group_of n w.names ≡ None };
 }

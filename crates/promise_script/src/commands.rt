@@ -3,8 +3,8 @@ ghost use Rattle.std.specs.Prelude.{◌≡◌, map};
 ghost use Rattle.promise_script.specs.Decode.{made_by, combined_by, used_by};
 
 use crate::parts::{
-    read_broken, read_continued, read_grouped, read_joined, read_one_name, read_raced, read_two_names,
-    read_valued,
+    read_broken, read_continued, read_grouped, read_joined, read_one_name, read_raced,
+    read_two_names, read_valued,
 };
 use crate::verbs::{Combiner, Maker, User};
 use promise_commands::Command;

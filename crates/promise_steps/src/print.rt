@@ -112,7 +112,8 @@ fn print_cause(text: &mut Bytes, refused: Refused) -> Result<(), NoMemory>
 
 /// The line of a refusal, with its end.
 pub fn print_refused(text: &mut Bytes, number: u32, refused: Refused) -> Result<(), NoMemory>
-    ensures { OnOk result (text.new ≡ text.old ++ line_text (RefusedAt number (refused_of refused)) ++ 10 ∷ []) }
+    ensures { OnOk result
+        (text.new ≡ text.old ++ line_text (RefusedAt number (refused_of refused)) ++ 10 ∷ []) }
 {
     text.extend(b"refused")?;
     print_number(text, u64::from(number))?;

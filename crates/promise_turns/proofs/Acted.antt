@@ -3,18 +3,19 @@ use Rattle.std.proofs.Common.{◌≡◌, ◌∙◌, sym, ap, subst, refl, ℕ, L
 use Rattle.std.proofs.lemmas.List.{append-nil}
 use Rattle.std.proofs.lemmas.Bool.{false≢true}
 use Rattle.kj_base.specs.Counts.{HasLacked}
-use Rattle.kj_base.specs.Record.{Item, Tells}
+use Rattle.kj_base.specs.Record.{Item}
+use Rattle.promise_commands.specs.Telling.{Telling, Hears}
 use Rattle.kj_model.specs.World.{World, State, Setting}
 use Rattle.kj_model.specs.Changes.{silent}
 use Rattle.promise_walks.specs.Walks.{Moves}
 use Rattle.promise_walks.specs.Values.{Valued, Rule, Goes, Lacks, gave, setting_of}
-use Rattle.promise_walks.proofs.Composed.{tells_none, tells_then}
+use Rattle.promise_walks.proofs.Composed.{hears_none, hears_then}
 use Rattle.promise_walks.proofs.Answering.{agrees_append}
 use Rattle.promise_turns.specs.Acting.{Acts}
 
 -- an evaluation, and then a change that asks for no answer
-pub acts_then : {X : Type 0} (Old Mid New P : World → Type 0) (rule : Rule) (From : Setting → State → Type 0) (valued : Setting → State → Valued X) (x : X) (change f : Setting → State → State) (xs ys : List Item) (a b c : Option (List Item)) (k l m : ℕ)
-    → Tells a xs b → Tells b ys c → l ≡ k → m ≡ l → Goes Old Mid rule valued (gave x) xs
+pub acts_then : {X : Type 0} (Old Mid New P : World → Type 0) (rule : Rule) (From : Setting → State → Type 0) (valued : Setting → State → Valued X) (x : X) (change f : Setting → State → State) (xs ys : List Item) (a b c : Telling) (k l m : ℕ)
+    → Hears a xs b → Hears b ys c → l ≡ k → m ≡ l → Goes Old Mid rule valued (gave x) xs
     → ((setting : Setting) → Moves (λ w. Mid w × P w) New (f setting) (λ s. s) ys)
     → ((setting : Setting) (s : State) → From setting s → (valued setting s).1 ≡ Some x → P (valued setting s).0.world)
     → ((setting : Setting) (s : State) → Old s.world → From setting s → (valued setting s).1 ≡ Some x → f setting (valued setting s).0 ≡ change setting s)
@@ -22,7 +23,7 @@ pub acts_then : {X : Type 0} (Old Mid New P : World → Type 0) (rule : Rule) (F
 acts_then {X} Old Mid New P rule From valued x change f xs ys a b c k l m told then none still goes moves holds same = record {
   items = xs ++ ys;
   missing = None;
-  told = tells_then a b c xs ys told then;
+  told = hears_then a b c xs ys told then;
   lacks = still ∙ none;
   goes = λ answer s old from agrees missing.
       let setting : Setting = setting_of rule answer in
@@ -42,8 +43,8 @@ acts_then {X} Old Mid New P rule From valued x change f xs ys a b c k l m told t
 }
 
 -- an evaluation that found no memory, and nothing more
-pub acts_lacking : {X : Type 0} (Old New : World → Type 0) (rule : Rule) (From : Setting → State → Type 0) (valued : Setting → State → Valued X) (change : Setting → State → State) (xs : List Item) (a b : Option (List Item)) (k l : ℕ)
-    → Tells a xs b → HasLacked true k l → Lacks Old New rule valued xs
+pub acts_lacking : {X : Type 0} (Old New : World → Type 0) (rule : Rule) (From : Setting → State → Type 0) (valued : Setting → State → Valued X) (change : Setting → State → State) (xs : List Item) (a b : Telling) (k l : ℕ)
+    → Hears a xs b → HasLacked true k l → Lacks Old New rule valued xs
     → ((setting : Setting) (s : State) → (valued setting s).1 ≡ None → (valued setting s).0.world.stopped ≡ true)
     → ((setting : Setting) (s : State) → Old s.world → From setting s → (valued setting s).1 ≡ None → (valued setting s).0 ≡ change setting s)
     → Acts Old New rule From change (λ s. s) a b k l
@@ -68,8 +69,8 @@ acts_lacking {X} Old New rule From valued change xs a b k l told rose lacks stop
 }
 
 -- a change that asks for no answer
-pub acts_once : (Old New P : World → Type 0) (rule : Rule) (From : Setting → State → Type 0) (change : Setting → State → State) (f : State → State) (ys : List Item) (a b : Option (List Item)) (k l : ℕ)
-    → Tells a ys b → l ≡ k → Moves (λ w. Old w × P w) New f (λ s. s) ys
+pub acts_once : (Old New P : World → Type 0) (rule : Rule) (From : Setting → State → Type 0) (change : Setting → State → State) (f : State → State) (ys : List Item) (a b : Telling) (k l : ℕ)
+    → Hears a ys b → l ≡ k → Moves (λ w. Old w × P w) New f (λ s. s) ys
     → ((setting : Setting) (s : State) → Old s.world → From setting s → P s.world)
     → ((setting : Setting) (s : State) → Old s.world → From setting s → f s ≡ change setting s)
     → Acts Old New rule From change (λ s. s) a b k l
@@ -86,13 +87,13 @@ acts_once Old New P rule From change f ys a b k l told still moves holds same = 
 }
 
 -- nothing is told
-pub acts_silent : {E : Type 0} (Old New : World → Type 0) (rule : Rule) (From : Setting → State → Type 0) (change : Setting → State → E) (view : State → E) (g : World → World) (a : Option (List Item)) (k : ℕ)
+pub acts_silent : {E : Type 0} (Old New : World → Type 0) (rule : Rule) (From : Setting → State → Type 0) (change : Setting → State → E) (view : State → E) (g : World → World) (a : Telling) (k : ℕ)
     → ((setting : Setting) (s : State) → Old s.world → From setting s → New (g s.world) × (view (silent g s) ≡ change setting s))
     → Acts Old New rule From change view a a k k
 acts_silent Old New rule From change view g a k same = record {
   items = [];
   missing = None;
-  told = tells_none a;
+  told = hears_none a;
   lacks = refl;
   goes = λ answer s old from agrees missing.
       let q = same (setting_of rule answer) s old from in
@@ -101,7 +102,7 @@ acts_silent Old New rule From change view g a k same = record {
 }
 
 -- of fewer states
-pub acts_less : {E : Type 0} (Old New : World → Type 0) (rule : Rule) (From Less : Setting → State → Type 0) (change : Setting → State → E) (view : State → E) (a b : Option (List Item)) (k l : ℕ)
+pub acts_less : {E : Type 0} (Old New : World → Type 0) (rule : Rule) (From Less : Setting → State → Type 0) (change : Setting → State → E) (view : State → E) (a b : Telling) (k l : ℕ)
     → ((setting : Setting) (s : State) → Old s.world → Less setting s → From setting s)
     → Acts Old New rule From change view a b k l → Acts Old New rule Less change view a b k l
 acts_less Old New rule From Less change view a b k l less d = record {
@@ -114,7 +115,7 @@ acts_less Old New rule From Less change view a b k l less d = record {
 }
 
 -- and then a change that isn't told
-pub acts_after : {E : Type 0} (Old Then New : World → Type 0) (rule : Rule) (From : Setting → State → Type 0) (change : Setting → State → State) (whole : Setting → State → E) (view : State → E) (h : World → World) (a b : Option (List Item)) (k l : ℕ)
+pub acts_after : {E : Type 0} (Old Then New : World → Type 0) (rule : Rule) (From : Setting → State → Type 0) (change : Setting → State → State) (whole : Setting → State → E) (view : State → E) (h : World → World) (a b : Telling) (k l : ℕ)
     → Acts Old Then rule From change (λ s. s) a b k l
     → ((w : World) → Then w → New (h w))
     → ((w : World) → (h w).stopped ≡ w.stopped)
@@ -138,7 +139,7 @@ acts_after Old Then New rule From change whole view h a b k l d ends runs same =
 }
 
 -- and before that one that isn't told
-pub acts_before : {E : Type 0} (Old Mid New : World → Type 0) (rule : Rule) (From Fires : Setting → State → Type 0) (change whole : Setting → State → E) (view : State → E) (g : World → World) (a b : Option (List Item)) (k l : ℕ)
+pub acts_before : {E : Type 0} (Old Mid New : World → Type 0) (rule : Rule) (From Fires : Setting → State → Type 0) (change whole : Setting → State → E) (view : State → E) (g : World → World) (a b : Telling) (k l : ℕ)
     → Acts Mid New rule Fires change view a b k l
     → ((w : World) → Old w → Mid (g w))
     → ((setting : Setting) (s : State) → Old s.world → From setting s → Fires setting (silent g s) × (change setting (silent g s) ≡ whole setting s))

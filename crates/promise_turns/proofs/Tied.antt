@@ -3,6 +3,7 @@ use Rattle.std.proofs.Common.{◌≡◌, ◌∙◌, sym, ap, subst, ℕ, List, �
 use Rattle.std.specs.Prelude.{is_some}
 use Rattle.kj_base.specs.Counts.{HasLacked}
 use Rattle.kj_base.specs.Record.{Item}
+use Rattle.promise_commands.specs.Telling.{Telling}
 use Rattle.kj_model.specs.Log.{passing}
 use Rattle.kj_model.specs.Nodes.{form_at}
 use Rattle.kj_model.specs.World.{World, State, Setting}
@@ -38,7 +39,7 @@ by_missing New rule change k l is s items (Some step) runs tells lacks goes stop
     let r = goes answer agrees lacking in
     subst (λ (b : Bool). HasLacked b k l) (sym (tells r.state.world r.stands ∙ stops answer agrees lacking refl)) lacks
 
-pub tied : (Old New : World → Type 0) (rule : Rule) (From : Setting → State → Type 0) (change : Setting → State → State) (a b : Option (List Item)) (k l : ℕ) (is : Bool)
+pub tied : (Old New : World → Type 0) (rule : Rule) (From : Setting → State → Type 0) (change : Setting → State → State) (a b : Telling) (k l : ℕ) (is : Bool)
     → Acts Old New rule From change (λ s. s) a b k l
     → (s : State) → Old s.world → ((answer : Answer) → From (setting_of rule answer) s)
     → ((setting : Setting) → FindsMemory setting → (change setting s).world.stopped ≡ false)

@@ -1,5 +1,5 @@
 //! What the event of a node does.
-ghost use Rattle.std.specs.Prelude.{◌≡◌, [], List, ℕ, Some, true, option_copied};
+ghost use Rattle.std.specs.Prelude.{◌≡◌, List, ℕ, Some, true};
 ghost use Rattle.kj_model.specs.World.{World, State, Setting};
 ghost use Rattle.kj_model.specs.Nodes.{form_at, owner_of};
 ghost use Rattle.kj_model.specs.Listening.{join_ready};

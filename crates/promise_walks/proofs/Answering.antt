@@ -2,11 +2,12 @@
 use Rattle.std.proofs.Common.{◌≡◌, ◌∙◌, sym, ap, subst, List, [], ◌∷◌, ◌++◌, Option, None, Result, Ok, Err, append_assoc}
 use Rattle.std.proofs.lemmas.List.{append-nil}
 use Rattle.kj_base.specs.declared.memory.NoMemory.{NoMemory}
-use Rattle.kj_base.specs.Record.{Item, Run, Free, Tells}
+use Rattle.kj_base.specs.Record.{Item, Run, Free}
+use Rattle.promise_commands.specs.Telling.{Telling, Hears}
 use Rattle.kj_model.specs.World.{World, State, Setting}
 use Rattle.promise_walks.specs.Walks.{Moved}
 use Rattle.promise_walks.specs.Values.{Valued, Rule, Answer, setting_of, Agrees, Goes, Lacks, Answered, Gives, Walked}
-use Rattle.promise_walks.proofs.Composed.{tells_then}
+use Rattle.promise_walks.proofs.Composed.{hears_none, hears_then}
 
 pub agrees_append : (answer : Answer) (past xs ys : List Item) → Agrees answer past (xs ++ ys) → Agrees answer past xs × Agrees answer (past ++ xs) ys
 agrees_append answer past [] ys h = (tt, subst (λ l. Agrees answer l ys) (sym (append-nil past)) h)
@@ -44,10 +45,10 @@ pub answered_then : {X A : Type 0} (P Q R : World → Type 0) (rule : Rule) (f g
 answered_then P Q R rule f g view xs ys (Ok a) m n = goes_then P Q R rule f g (view a) xs ys m n
 answered_then P Q R rule f g view xs ys (Err e) m n = lacks_then P Q R rule f g xs ys m n
 
-pub gives_then : {X A : Type 0} (P Q R : World → Type 0) (rule : Rule) (f g : Setting → State → Valued X) (view : A → Setting → State → Valued X) (a b c : Option (List Item)) (result : Result A NoMemory) (xs : List Item) → Tells a xs b → Goes P Q rule f g xs → Gives Q R rule g view b c result → Gives P R rule f view a c result
+pub gives_then : {X A : Type 0} (P Q R : World → Type 0) (rule : Rule) (f g : Setting → State → Valued X) (view : A → Setting → State → Valued X) (a b c : Telling) (result : Result A NoMemory) (xs : List Item) → Hears a xs b → Goes P Q rule f g xs → Gives Q R rule g view b c result → Gives P R rule f view a c result
 gives_then P Q R rule f g view a b c result xs told m n = record {
   items = xs ++ n.items;
-  told = tells_then a b c xs n.items told n.told;
+  told = hears_then a b c xs n.items told n.told;
   same = answered_then P Q R rule f g view xs n.items result m n.same;
 }
 
@@ -74,7 +75,7 @@ answered_from P Q rule f g view xs (Err e) same m = record {
 }
 
 -- the same from another definition, where they agree on each world that stood
-pub gives_from : {X A : Type 0} (P Q : World → Type 0) (rule : Rule) (f g : Setting → State → Valued X) (view : A → Setting → State → Valued X) (a b : Option (List Item)) (result : Result A NoMemory) → ((setting : Setting) (s : State) → P s.world → f setting s ≡ g setting s) → Gives P Q rule f view a b result → Gives P Q rule g view a b result
+pub gives_from : {X A : Type 0} (P Q : World → Type 0) (rule : Rule) (f g : Setting → State → Valued X) (view : A → Setting → State → Valued X) (a b : Telling) (result : Result A NoMemory) → ((setting : Setting) (s : State) → P s.world → f setting s ≡ g setting s) → Gives P Q rule f view a b result → Gives P Q rule g view a b result
 gives_from P Q rule f g view a b result same n = record { items = n.items; told = n.told; same = answered_from P Q rule f g view n.items result same n.same }
 
 pub goes_over : {X Y : Type 0} (P Q : World → Type 0) (rule : Rule) (over : Setting → Valued X → Valued Y) (f g : Setting → State → Valued X) (xs : List Item) → Goes P Q rule f g xs → Goes P Q rule (λ setting s. over setting (f setting s)) (λ setting s. over setting (g setting s)) xs
@@ -90,12 +91,12 @@ answered_over P Q rule over f view xs (Err e) none m = record {
 }
 
 -- what goes on with what was given, and passes want of memory
-pub gives_over : {X Y A : Type 0} (P Q : World → Type 0) (rule : Rule) (over : Setting → Valued X → Valued Y) (f : Setting → State → Valued X) (view : A → Setting → State → Valued X) (a b : Option (List Item)) (result : Result A NoMemory) → ((setting : Setting) (s : State) → over setting (s, None) ≡ (s, None))
+pub gives_over : {X Y A : Type 0} (P Q : World → Type 0) (rule : Rule) (over : Setting → Valued X → Valued Y) (f : Setting → State → Valued X) (view : A → Setting → State → Valued X) (a b : Telling) (result : Result A NoMemory) → ((setting : Setting) (s : State) → over setting (s, None) ≡ (s, None))
     → Gives P Q rule f view a b result → Gives P Q rule (λ setting s. over setting (f setting s)) (λ x setting s. over setting (view x setting s)) a b result
 gives_over P Q rule over f view a b result none n = record { items = n.items; told = n.told; same = answered_over P Q rule over f view n.items result none n.same }
 
 -- another view of the same result
-pub gives_as : {X A B : Type 0} (P Q : World → Type 0) (rule : Rule) (f : Setting → State → Valued X) (view : A → Setting → State → Valued X) (other : B → Setting → State → Valued X) (a b : Option (List Item)) (x : A) (y : B)
+pub gives_as : {X A B : Type 0} (P Q : World → Type 0) (rule : Rule) (f : Setting → State → Valued X) (view : A → Setting → State → Valued X) (other : B → Setting → State → Valued X) (a b : Telling) (x : A) (y : B)
     → ((setting : Setting) (s : State) → Q s.world → view x setting s ≡ other y setting s) → Gives P Q rule f view a b (Ok x) → Gives P Q rule f other a b (Ok y)
 gives_as P Q rule f view other a b x y same n = record {
   items = n.items;
@@ -104,29 +105,37 @@ gives_as P Q rule f view other a b x y same n = record {
 }
 
 -- want of memory in any view
-pub gives_none : {X A B : Type 0} (P Q : World → Type 0) (rule : Rule) (f : Setting → State → Valued X) (view : A → Setting → State → Valued X) (other : B → Setting → State → Valued X) (a b : Option (List Item)) (e : NoMemory) → Gives P Q rule f view a b (Err e) → Gives P Q rule f other a b (Err e)
+pub gives_none : {X A B : Type 0} (P Q : World → Type 0) (rule : Rule) (f : Setting → State → Valued X) (view : A → Setting → State → Valued X) (other : B → Setting → State → Valued X) (a b : Telling) (e : NoMemory) → Gives P Q rule f view a b (Err e) → Gives P Q rule f other a b (Err e)
 gives_none P Q rule f view other a b e n = record { items = n.items; told = n.told; same = n.same }
+
+-- nothing was done yet
+pub walked_begun : {X : Type 0} (P : World → Type 0) (rule : Rule) (f g : Setting → State → Valued X) (a : Telling) → ((setting : Setting) (s : State) → g setting s ≡ f setting s) → Walked P P rule f g a a
+walked_begun P rule f g a same = record {
+  items = [];
+  told = hears_none a;
+  goes = λ answer s stands agrees. record { state = s; stands = stands; past_is = sym (append-nil s.past); ends = same (setting_of rule answer) s };
+}
 
 -- ---- the walk so far
 
-pub walked_on : {X A : Type 0} (P Q R : World → Type 0) (rule : Rule) (f g : Setting → State → Valued X) (view : A → Setting → State → Valued X) (a b c : Option (List Item)) (x : A)
+pub walked_on : {X A : Type 0} (P Q R : World → Type 0) (rule : Rule) (f g : Setting → State → Valued X) (view : A → Setting → State → Valued X) (a b c : Telling) (x : A)
     → Walked P Q rule f g a b → Gives Q R rule g view b c (Ok x) → Walked P R rule f (view x) a c
 walked_on P Q R rule f g view a b c x w n = record {
   items = w.items ++ n.items;
-  told = tells_then a b c w.items n.items w.told n.told;
+  told = hears_then a b c w.items n.items w.told n.told;
   goes = goes_then P Q R rule f g (view x) w.items n.items w.goes n.same;
 }
 
-pub walked_fails : {X A B : Type 0} (P Q R : World → Type 0) (rule : Rule) (f g : Setting → State → Valued X) (view : A → Setting → State → Valued X) (other : B → Setting → State → Valued X) (a b c : Option (List Item)) (e : NoMemory)
+pub walked_fails : {X A B : Type 0} (P Q R : World → Type 0) (rule : Rule) (f g : Setting → State → Valued X) (view : A → Setting → State → Valued X) (other : B → Setting → State → Valued X) (a b c : Telling) (e : NoMemory)
     → Walked P Q rule f g a b → Gives Q R rule g view b c (Err e) → Gives P R rule f other a c (Err e)
 walked_fails P Q R rule f g view other a b c e w n = record {
   items = w.items ++ n.items;
-  told = tells_then a b c w.items n.items w.told n.told;
+  told = hears_then a b c w.items n.items w.told n.told;
   same = lacks_then P Q R rule f g w.items n.items w.goes n.same;
 }
 
 -- what is left to do, said in another way where this world stands
-pub walked_as : {X : Type 0} (P Q : World → Type 0) (rule : Rule) (f g h : Setting → State → Valued X) (a b : Option (List Item)) → ((setting : Setting) (s : State) → Q s.world → g setting s ≡ h setting s) → Walked P Q rule f g a b → Walked P Q rule f h a b
+pub walked_as : {X : Type 0} (P Q : World → Type 0) (rule : Rule) (f g h : Setting → State → Valued X) (a b : Telling) → ((setting : Setting) (s : State) → Q s.world → g setting s ≡ h setting s) → Walked P Q rule f g a b → Walked P Q rule f h a b
 walked_as P Q rule f g h a b same w = record {
   items = w.items;
   told = w.told;
@@ -134,5 +143,5 @@ walked_as P Q rule f g h a b same w = record {
 }
 
 -- nothing is left to do
-pub walked_gives : {X A : Type 0} (P Q : World → Type 0) (rule : Rule) (f : Setting → State → Valued X) (view : A → Setting → State → Valued X) (a b : Option (List Item)) (x : A) → Walked P Q rule f (view x) a b → Gives P Q rule f view a b (Ok x)
+pub walked_gives : {X A : Type 0} (P Q : World → Type 0) (rule : Rule) (f : Setting → State → Valued X) (view : A → Setting → State → Valued X) (a b : Telling) (x : A) → Walked P Q rule f (view x) a b → Gives P Q rule f view a b (Ok x)
 walked_gives P Q rule f view a b x w = record { items = w.items; told = w.told; same = w.goes }

@@ -1,7 +1,8 @@
 -- One change after another.
-use Rattle.std.proofs.Common.{◌≡◌, ℕ, List, [], ◌++◌, Option, None, Some, Bool, refl, sym, ap, ◌∙◌, append_assoc}
+use Rattle.std.proofs.Common.{◌≡◌, ◌+◌, ℕ, List, [], ◌++◌, Option, None, Some, Bool, refl, sym, ap, ◌∙◌, append_assoc, length-append, arith}
 use Rattle.kj_model.specs.World.{World, State}
 use Rattle.kj_base.specs.Record.{Item, Tells}
+use Rattle.promise_commands.specs.Telling.{Telling, Hears}
 use Rattle.std.proofs.lemmas.List.{append-nil}
 use Rattle.promise_nodes.specs.Kept.{OnlyFalls, OnlyRises}
 use Rattle.promise_walks.specs.Walks.{Moves, Does}
@@ -28,19 +29,30 @@ some_same l q e = cc
 none_some : (q : List Item) → ◌≡◌ {A = Option (List Item)} None (Some q) → ⊥
 none_some q e = cc
 
-pub tells_then : (a b c : Option (List Item)) (xs ys : List Item) → Tells a xs b → Tells b ys c → Tells a (xs ++ ys) c
-tells_then a b None xs ys h k = tt
-tells_then a (Some l) (Some m) xs ys (p, e, f) (q, g, h) = (p, e, h ∙ ap (λ x. x ++ ys) (sym (some_same l q g) ∙ f) ∙ append_assoc p xs ys)
-tells_then a None (Some m) xs ys h (q, g, k) = absurd (none_some q g)
+items_then : (a b c : Option (List Item)) (xs ys : List Item) → Tells a xs b → Tells b ys c → Tells a (xs ++ ys) c
+items_then a b None xs ys h k = tt
+items_then a (Some l) (Some m) xs ys (p, e, f) (q, g, h) = (p, e, h ∙ ap (λ x. x ++ ys) (sym (some_same l q g) ∙ f) ∙ append_assoc p xs ys)
+items_then a None (Some m) xs ys h (q, g, k) = absurd (none_some q g)
 
-pub tells_none : (a : Option (List Item)) → Tells a [] a
-tells_none None = tt
-tells_none (Some l) = (l, refl, sym (append-nil l))
+no_items : (a : Option (List Item)) → Tells a [] a
+no_items None = tt
+no_items (Some l) = (l, refl, sym (append-nil l))
 
-pub does_then : (A B C : World → Type 0) (f g h : State → State) (a b c : Option (List Item)) → Does A B f g a b → Does B C g h b c → Does A C f h a c
+-- what steps hear, one list after another
+pub hears_then : (a b c : Telling) (xs ys : List Item) → Hears a xs b → Hears b ys c → Hears a (xs ++ ys) c
+hears_then a b c xs ys h k = record {
+  told = items_then a.items b.items c.items xs ys h.told k.told;
+  least = let both = length-append xs ys in omega (arith, h.least, k.least, both);
+}
+
+-- they hear nothing
+pub hears_none : (a : Telling) → Hears a [] a
+hears_none a = record { told = no_items a.items; least = omega arith }
+
+pub does_then : (A B C : World → Type 0) (f g h : State → State) (a b c : Telling) → Does A B f g a b → Does B C g h b c → Does A C f h a c
 does_then A B C f g h a b c d e = record {
   items = d.items ++ e.items;
-  told = tells_then a b c d.items e.items d.told e.told;
+  told = hears_then a b c d.items e.items d.told e.told;
   moves = moves_then A B C f g h d.items e.items d.moves e.moves;
 }
 
@@ -51,7 +63,7 @@ pub rises_then : (a b c : ℕ → Bool) → OnlyRises a b → OnlyRises b c → 
 rises_then a b c f g n h = g n (f n h)
 
 -- the same from another definition, where they agree on each world that stood
-pub does_from : (A B : World → Type 0) (f g h : State → State) (a b : Option (List Item)) → ((s : State) → A s.world → f s ≡ g s) → Does A B f h a b → Does A B g h a b
+pub does_from : (A B : World → Type 0) (f g h : State → State) (a b : Telling) → ((s : State) → A s.world → f s ≡ g s) → Does A B f h a b → Does A B g h a b
 does_from A B f g h a b same d = record {
   items = d.items;
   told = d.told;

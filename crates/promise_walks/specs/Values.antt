@@ -1,11 +1,11 @@
 -- What evaluations give, against the definitions.
-use Rattle.std.specs.Prelude.{◌≡◌, ◌<◌, ℕ, List, [], ◌∷◌, ◌++◌, Option, None, Some, Bool, false, Result, Ok, Err}
+use Rattle.std.specs.Prelude.{◌≡◌, ◌<◌, ℕ, List, [], ◌++◌, Option, None, Some, Bool, false, Result, Ok, Err}
 use Rattle.kj_base.specs.declared.memory.NoMemory.{NoMemory}
 use Rattle.kj_base.specs.declared.outcomes.Outcome.{Outcome}
 use Rattle.kj_base.specs.declared.nodes.Form.{Form as FormCase}
-use Rattle.kj_base.specs.Commands.{Action}
 use Rattle.kj_base.specs.Places.{Spot, Row}
-use Rattle.kj_base.specs.Record.{Item, Run, Free, Tells}
+use Rattle.kj_base.specs.Record.{Item}
+use Rattle.promise_commands.specs.Telling.{Telling, Hears}
 use Rattle.kj_model.specs.Nodes.{parts_of}
 use Rattle.kj_model.specs.World.{World, State, Setting}
 use Rattle.kj_model.specs.Value.{Given, Gave, Took}
@@ -56,9 +56,9 @@ Answered Old New rule before view items (Ok a) = Goes Old New rule before (view 
 Answered Old New rule before view items (Err none) = Lacks Old New rule before items
 
 -- the same, and just these items were told
-pub record Gives {X A : Type 0} (Old New : World → Type 0) (rule : Rule) (before : Setting → State → Valued X) (view : A → Setting → State → Valued X) (told_before told_after : Option (List Item)) (result : Result A NoMemory) : Type 0 where
+pub record Gives {X A : Type 0} (Old New : World → Type 0) (rule : Rule) (before : Setting → State → Valued X) (view : A → Setting → State → Valued X) (told_before told_after : Telling) (result : Result A NoMemory) : Type 0 where
   pub items : List Item
-  pub told : Tells told_before items told_after
+  pub told : Hears told_before items told_after
   pub same : Answered Old New rule before view items result
 
 -- what a step gave
@@ -87,7 +87,7 @@ pub record IsBare (form : FormCase) : Type 0 where
   pub parts : parts_of (shown [] form) ≡ []
 
 -- some of the way was gone, and just these items were told
-pub record Walked {X : Type 0} (Old New : World → Type 0) (rule : Rule) (before after : Setting → State → Valued X) (told_before told_after : Option (List Item)) : Type 0 where
+pub record Walked {X : Type 0} (Old New : World → Type 0) (rule : Rule) (before after : Setting → State → Valued X) (told_before told_after : Telling) : Type 0 where
   pub items : List Item
-  pub told : Tells told_before items told_after
+  pub told : Hears told_before items told_after
   pub goes : Goes Old New rule before after items

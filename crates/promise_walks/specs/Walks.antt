@@ -1,6 +1,7 @@
 -- What walks do, against the definitions.
 use Rattle.std.specs.Prelude.{◌≡◌, ℕ, List, ◌++◌, Option, option_to_list}
-use Rattle.kj_base.specs.Record.{Item, Tells}
+use Rattle.kj_base.specs.Record.{Item}
+use Rattle.promise_commands.specs.Telling.{Telling, Hears}
 use Rattle.kj_model.specs.World.{World, State}
 use Rattle.kj_model.specs.Changes.{silent}
 use Rattle.kj_model.specs.Free.{Guard, Holding, Every}
@@ -35,7 +36,7 @@ abbrev pub Moves : (World → Type 0) → (World → Type 0) → (State → Stat
 Moves Old New before after items = (s : State) → Old s.world → Moved New (before s) after (s.past ++ items)
 
 -- the same, and just these items were told
-pub record Does (Old New : World → Type 0) (before after : State → State) (told_before told_after : Option (List Item)) : Type 0 where
+pub record Does (Old New : World → Type 0) (before after : State → State) (told_before told_after : Telling) : Type 0 where
   pub items : List Item
-  pub told : Tells told_before items told_after
+  pub told : Hears told_before items told_after
   pub moves : Moves Old New before after items

@@ -33,7 +33,9 @@ fn pass_step<L: Land, S: Steps>(
     input: Outcome,
     steps: &mut S,
 ) -> Result<Given, NoMemory>
-    ensures gives { Gives (L.stands land.old) (L.stands land.new) L.rule (λ setting s. step_passed setting under_chain node.number.0 (step_of step) input s) gave_given (S.told steps.old) (S.told steps.new) result }
+    ensures gives { Gives (L.stands land.old) (L.stands land.new)
+        L.rule (λ setting s. step_passed setting under_chain node.number.0 (step_of step) input s)
+        gave_given (S.told steps.old) (S.told steps.new) result }
     ensures lacks { HasLacked (is_err result) (S.lacks steps.old) (S.lacks steps.new) }
     ensures root { GivesRoot (L.roots land.new) (L.is_taken land.new) (L.next land.new) result }
     ensures plain { OnlyRises (L.is_plain land.old) (L.is_plain land.new) }
@@ -55,7 +57,10 @@ pub(crate) fn close_then<L: Land, S: Steps>(
     steps: &mut S,
 ) -> Result<Given, NoMemory>
     requires plain { L.is_plain land.old then.node.number.0 ≡ true }
-    ensures gives { Gives (L.stands land.old) (L.stands land.new) L.rule (λ setting s. then_valued setting under_chain then.node.number.0 (step_of then.value) (step_of then.error) then.tree.number.0 (Some outcome) s) gave_given (S.told steps.old) (S.told steps.new) result }
+    ensures gives { Gives (L.stands land.old) (L.stands land.new)
+        L.rule (λ setting s. then_valued setting under_chain then.node.number.0 (step_of then.value)
+        (step_of then.error) then.tree.number.0 (Some outcome) s) gave_given (S.told steps.old)
+        (S.told steps.new) result }
     ensures lacks { HasLacked (is_err result) (S.lacks steps.old) (S.lacks steps.new) }
     ensures root { GivesRoot (L.roots land.new) (L.is_taken land.new) (L.next land.new) result }
     ensures plain { OnlyRises (L.is_plain land.old) (L.is_plain land.new) }
@@ -85,7 +90,9 @@ pub(crate) fn close_side<L: Land, S: Steps>(
 ) -> Outcome
     requires plain { L.is_plain land.old side.number.0 ≡ true }
     ensures same { result ≡ outcome }
-    ensures gives { Gives (L.stands land.old) (L.stands land.new) L.rule (λ setting s. side_valued side.number.0 tree.number.0 (Some outcome) s) gave (S.told steps.old) (S.told steps.new) (Ok outcome) }
+    ensures gives { Gives (L.stands land.old) (L.stands land.new)
+        L.rule (λ setting s. side_valued side.number.0 tree.number.0 (Some outcome) s) gave
+        (S.told steps.old) (S.told steps.new) (Ok outcome) }
     ensures lacks { S.lacks steps.new ≡ S.lacks steps.old }
     ensures plain { OnlyRises (L.is_plain land.old) (L.is_plain land.new) }
     ensures slots { L.slots land.new ≡ L.slots land.old }

@@ -22,8 +22,14 @@ fn enter_winner<L: Land>(land: &L, stack: &mut Vec<Pending>, side: Link) -> At
     requires plain { ArePlain (L.is_plain land.now) stack.old.items }
     requires bound { vec_len stack.old < L.slots land.now + 1 }
     requires room { L.slots land.now + 1 ≤ vec_capacity stack.old }
-    ensures same { (setting : Setting) (s : State) → L.stands land.now s.world → climb setting (L.slots land.now + 1) stack.old.items (value_side (value_to setting (L.slots land.now - length stack.old.items)) side.number.0 s) ≡ is_at setting (L.slots land.now + 1) stack.new.items result s }
-    ensures weight { weigh (L.slots land.now + 1) stack.new.items + weigh_at (L.slots land.now + 1 - length stack.new.items) result < weigh (L.slots land.now + 1) stack.old.items + cost (L.slots land.now + 1 - length stack.old.items) }
+    ensures same { (setting : Setting) (s : State)
+        → L.stands land.now s.world → climb setting (L.slots land.now + 1) stack.old.items
+        (value_side (value_to setting (L.slots land.now - length stack.old.items)) side.number.0 s)
+        ≡ is_at setting (L.slots land.now + 1) stack.new.items result s }
+    ensures weight { weigh (L.slots land.now + 1) stack.new.items
+        + weigh_at (L.slots land.now + 1 - length stack.new.items) result
+        < weigh (L.slots land.now + 1) stack.old.items
+        + cost (L.slots land.now + 1 - length stack.old.items) }
     ensures plain { ArePlain (L.is_plain land.now) stack.new.items }
     ensures bound { vec_len stack.new ≤ L.slots land.now + 1 }
     ensures room { vec_capacity stack.old ≤ vec_capacity stack.new }
@@ -42,8 +48,14 @@ fn enter<L: Land>(land: &L, stack: &mut Vec<Pending>, node: Link) -> At
     requires plain { ArePlain (L.is_plain land.now) stack.old.items }
     requires bound { vec_len stack.old ≤ L.slots land.now + 1 }
     requires room { L.slots land.now + 1 ≤ vec_capacity stack.old }
-    ensures same { (setting : Setting) (s : State) → L.stands land.now s.world → climb setting (L.slots land.now + 1) stack.old.items (value_to setting (L.slots land.now + 1 - length stack.old.items) node.number.0 s) ≡ is_at setting (L.slots land.now + 1) stack.new.items result s }
-    ensures weight { weigh (L.slots land.now + 1) stack.new.items + weigh_at (L.slots land.now + 1 - length stack.new.items) result < weigh (L.slots land.now + 1) stack.old.items + cost (L.slots land.now + 1 - length stack.old.items) }
+    ensures same { (setting : Setting) (s : State)
+        → L.stands land.now s.world → climb setting (L.slots land.now + 1) stack.old.items
+        (value_to setting (L.slots land.now + 1 - length stack.old.items) node.number.0 s)
+        ≡ is_at setting (L.slots land.now + 1) stack.new.items result s }
+    ensures weight { weigh (L.slots land.now + 1) stack.new.items
+        + weigh_at (L.slots land.now + 1 - length stack.new.items) result
+        < weigh (L.slots land.now + 1) stack.old.items
+        + cost (L.slots land.now + 1 - length stack.old.items) }
     ensures plain { ArePlain (L.is_plain land.now) stack.new.items }
     ensures bound { vec_len stack.new ≤ L.slots land.now + 1 }
     ensures room { vec_capacity stack.old ≤ vec_capacity stack.new }
@@ -83,9 +95,14 @@ fn close<L: Land, S: Steps>(
     requires plain { ArePlain (L.is_plain land.old) (stack.old.items ++ pending ∷ []) }
     requires bound { vec_len stack.old < L.slots land.old + 1 }
     requires room { L.slots land.old + 1 ≤ vec_capacity stack.old }
-    ensures gives { Gives (L.stands land.old) (L.stands land.new) L.rule (λ setting s. climb setting (L.slots land.old + 1) (stack.old.items ++ pending ∷ []) (s, Some outcome)) (λ at setting s. is_at setting (L.slots land.old + 1) stack.new.items at s) (S.told steps.old) (S.told steps.new) result }
+    ensures gives { Gives (L.stands land.old) (L.stands land.new) L.rule (λ setting s. climb setting
+        (L.slots land.old + 1) (stack.old.items ++ pending ∷ []) (s, Some outcome))
+        (λ at setting s. is_at setting (L.slots land.old + 1) stack.new.items at s)
+        (S.told steps.old) (S.told steps.new) result }
     ensures lacks { HasLacked (is_err result) (S.lacks steps.old) (S.lacks steps.new) }
-    ensures weight { IfOk result (λ at. weigh (L.slots land.old + 1) stack.new.items + weigh_at (L.slots land.old + 1 - length stack.new.items) at < weigh (L.slots land.old + 1) (stack.old.items ++ pending ∷ [])) }
+    ensures weight { IfOk result (λ at. weigh (L.slots land.old + 1) stack.new.items
+        + weigh_at (L.slots land.old + 1 - length stack.new.items) at
+        < weigh (L.slots land.old + 1) (stack.old.items ++ pending ∷ [])) }
     ensures stack { ArePlain (L.is_plain land.new) stack.new.items }
     ensures plain { OnlyRises (L.is_plain land.old) (L.is_plain land.new) }
     ensures bound { vec_len stack.new ≤ L.slots land.old + 1 }
@@ -119,7 +136,9 @@ fn climb_all<L: Land, S: Steps>(
     steps: &mut S,
 ) -> Result<Outcome, NoMemory>
     requires room { L.slots land.old + 1 ≤ vec_capacity stack.old }
-    ensures gives { Gives (L.stands land.old) (L.stands land.new) L.rule (λ setting s. value_to setting (L.slots land.old + 1) root.number.0 s) gave (S.told steps.old) (S.told steps.new) result }
+    ensures gives { Gives (L.stands land.old) (L.stands land.new)
+        L.rule (λ setting s. value_to setting (L.slots land.old + 1) root.number.0 s) gave
+        (S.told steps.old) (S.told steps.new) result }
     ensures lacks { HasLacked (is_err result) (S.lacks steps.old) (S.lacks steps.new) }
     ensures plain { OnlyRises (L.is_plain land.old) (L.is_plain land.new) }
     ensures slots { L.slots land.new ≡ L.slots land.old }
@@ -155,7 +174,9 @@ pub fn evaluate<L: Land, S: Steps>(
     steps: &mut S,
 ) -> Result<Outcome, NoMemory>
     requires room { L.slots land.old + 1 ≤ vec_capacity stack.old }
-    ensures gives { Gives (L.stands land.old) (L.stands land.new) L.rule (λ setting s. value setting root.number.0 s) gave (S.told steps.old) (S.told steps.new) result }
+    ensures gives { Gives (L.stands land.old) (L.stands land.new) L.rule
+        (λ setting s. value setting root.number.0 s) gave (S.told steps.old) (S.told steps.new)
+        result }
     ensures lacks { HasLacked (is_err result) (S.lacks steps.old) (S.lacks steps.new) }
     ensures plain { OnlyRises (L.is_plain land.old) (L.is_plain land.new) }
     ensures slots { L.slots land.new ≡ L.slots land.old }

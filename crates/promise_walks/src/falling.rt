@@ -20,7 +20,8 @@ use promise_nodes::{Mark, Nodes};
 
 // Whether this is the form of a branch of the hub.
 fn is_branch_form(form: &Form, hub: Link) -> bool
-    ensures { (branches : List ℕ) → result ≡ is_branch_of hub.number.0 (Some (shown branches form.now)) }
+    ensures { (branches : List ℕ)
+        → result ≡ is_branch_of hub.number.0 (Some (shown branches form.now)) }
 {
     match form {
         Form::Branch { hub: own } => own.number.0 == hub.number.0,
@@ -40,7 +41,8 @@ fn is_unnamed_form(form: &Form) -> bool
 
 // Whether this is a branch of the hub.
 fn is_branch_of<N: Nodes>(nodes: &N, hub: Link, branch: Link) -> bool
-    ensures { (w : World) → N.stands nodes.now w → result ≡ is_branch_of hub.number.0 (form_at branch.number.0 w.nodes) }
+    ensures { (w : World) → N.stands nodes.now w
+        → result ≡ is_branch_of hub.number.0 (form_at branch.number.0 w.nodes) }
 {
     match nodes.form(branch) {
         Some(form) => is_branch_form(form, hub),
@@ -50,7 +52,8 @@ fn is_branch_of<N: Nodes>(nodes: &N, hub: Link, branch: Link) -> bool
 
 // Whether this is a hub without a name.
 fn is_unnamed_hub<N: Nodes>(nodes: &N, hub: Link) -> bool
-    ensures { (w : World) → N.stands nodes.now w → result ≡ is_unnamed_hub (form_at hub.number.0 w.nodes) }
+    ensures { (w : World) → N.stands nodes.now w
+        → result ≡ is_unnamed_hub (form_at hub.number.0 w.nodes) }
 {
     match nodes.form(hub) {
         Some(form) => is_unnamed_form(form),
@@ -60,7 +63,9 @@ fn is_unnamed_hub<N: Nodes>(nodes: &N, hub: Link) -> bool
 
 // Whether this is a branch of the hub that left it or went.
 fn is_off<N: Nodes>(nodes: &N, hub: Link, branch: Link) -> bool
-    ensures { (w : World) (way gone : List ℕ) → N.stands nodes.now w → AreMarks (N.marks nodes.now) way gone → result ≡ (is_off way gone branch.number.0 && is_branch_of hub.number.0 (form_at branch.number.0 w.nodes)) }
+    ensures { (w : World) (way gone : List ℕ) → N.stands nodes.now w
+        → AreMarks (N.marks nodes.now) way gone → result ≡ (is_off way gone branch.number.0
+        && is_branch_of hub.number.0 (form_at branch.number.0 w.nodes)) }
 {
     match nodes.mark_of(branch) {
         Mark::Unmarked => false,
@@ -71,7 +76,9 @@ fn is_off<N: Nodes>(nodes: &N, hub: Link, branch: Link) -> bool
 
 // Whether all branches of a hub left it or went, from the oldest on.
 fn are_off<N: Nodes>(nodes: &N, hub: Link) -> bool
-    ensures { (w : World) (way gone : List ℕ) → N.stands nodes.now w → AreMarks (N.marks nodes.now) way gone → result ≡ are_off way gone hub.number.0 w.nodes (branches_of (form_at hub.number.0 w.nodes)) }
+    ensures { (w : World) (way gone : List ℕ)
+        → N.stands nodes.now w → AreMarks (N.marks nodes.now) way gone → result
+        ≡ are_off way gone hub.number.0 w.nodes (branches_of (form_at hub.number.0 w.nodes)) }
 {
     let mut at = nodes.first_branch(hub);
     let mut left = nodes.slots();
@@ -90,7 +97,8 @@ fn are_off<N: Nodes>(nodes: &N, hub: Link) -> bool
 
 // Whether a node is gone.
 fn is_gone<N: Nodes>(nodes: &N, node: Link) -> bool
-    ensures { (way gone : List ℕ) → AreMarks (N.marks nodes.now) way gone → result ≡ is_in node.number.0 gone }
+    ensures { (way gone : List ℕ) → AreMarks (N.marks nodes.now) way gone
+        → result ≡ is_in node.number.0 gone }
 {
     match nodes.mark_of(node) {
         Mark::Unmarked => false,
@@ -101,7 +109,9 @@ fn is_gone<N: Nodes>(nodes: &N, node: Link) -> bool
 
 // Whether a hub that is there has neither a name nor a branch that stays.
 fn goes_too<N: Nodes>(nodes: &N, hub: Link) -> bool
-    ensures { (w : World) (way gone : List ℕ) → N.stands nodes.now w → AreMarks (N.marks nodes.now) way gone → result ≡ is_unreferenced (form_then way gone hub.number.0 w.nodes) }
+    ensures { (w : World) (way gone : List ℕ)
+        → N.stands nodes.now w → AreMarks (N.marks nodes.now) way gone
+        → result ≡ is_unreferenced (form_then way gone hub.number.0 w.nodes) }
 {
     if is_gone(nodes, hub) {
         return false;
@@ -114,9 +124,15 @@ fn goes_too<N: Nodes>(nodes: &N, hub: Link) -> bool
 
 // A branch leaves its hub, and the hub goes like a part of it.
 fn enter_branch<N: Nodes>(nodes: &mut N, node: Link, hub: Link) -> Frame
-    ensures enters { (w : World) (way gone : List ℕ) → N.stands nodes.old w → AreMarks (N.marks nodes.old) way gone → is_in node.number.0 gone ≡ false → form_at node.number.0 w.nodes ≡ Some (Branch hub.number.0) → IsEntered w (N.marks nodes.new) way gone node.number.0 result }
+    ensures enters { (w : World) (way gone : List ℕ) → N.stands nodes.old w
+        → AreMarks (N.marks nodes.old) way gone → is_in node.number.0 gone ≡ false
+        → form_at node.number.0 w.nodes ≡ Some (Branch hub.number.0)
+        → IsEntered w (N.marks nodes.new) way gone node.number.0 result }
     ensures stands { (w : World) → N.stands nodes.old w → N.stands nodes.new w }
-    ensures stays { Stays (known (N.is_taken nodes.old) (N.is_listed nodes.old) (N.is_plain nodes.old) (N.room nodes.old) (N.next nodes.old) (N.slots nodes.old)) (known (N.is_taken nodes.new) (N.is_listed nodes.new) (N.is_plain nodes.new) (N.room nodes.new) (N.next nodes.new) (N.slots nodes.new)) }
+    ensures stays { Stays (known (N.is_taken nodes.old) (N.is_listed nodes.old)
+        (N.is_plain nodes.old) (N.room nodes.old) (N.next nodes.old) (N.slots nodes.old))
+        (known (N.is_taken nodes.new) (N.is_listed nodes.new) (N.is_plain nodes.new)
+        (N.room nodes.new) (N.next nodes.new) (N.slots nodes.new)) }
 {
     nodes.mark(node, Mark::Left);
     let count = if goes_too(nodes, hub) { 1 } else { 0 };
@@ -129,9 +145,15 @@ fn enter_branch<N: Nodes>(nodes: &mut N, node: Link, hub: Link) -> Frame
 
 // A node is entered that isn't gone.
 fn enter<N: Nodes>(nodes: &mut N, node: Link, shape: Shape) -> Frame
-    ensures enters { (w : World) (way gone : List ℕ) → N.stands nodes.old w → AreMarks (N.marks nodes.old) way gone → is_in node.number.0 gone ≡ false → SeesShape (Some shape) (form_at node.number.0 w.nodes) → IsEntered w (N.marks nodes.new) way gone node.number.0 result }
+    ensures enters { (w : World) (way gone : List ℕ)
+        → N.stands nodes.old w → AreMarks (N.marks nodes.old) way gone
+        → is_in node.number.0 gone ≡ false → SeesShape (Some shape) (form_at node.number.0 w.nodes)
+        → IsEntered w (N.marks nodes.new) way gone node.number.0 result }
     ensures stands { (w : World) → N.stands nodes.old w → N.stands nodes.new w }
-    ensures stays { Stays (known (N.is_taken nodes.old) (N.is_listed nodes.old) (N.is_plain nodes.old) (N.room nodes.old) (N.next nodes.old) (N.slots nodes.old)) (known (N.is_taken nodes.new) (N.is_listed nodes.new) (N.is_plain nodes.new) (N.room nodes.new) (N.next nodes.new) (N.slots nodes.new)) }
+    ensures stays { Stays (known (N.is_taken nodes.old) (N.is_listed nodes.old)
+        (N.is_plain nodes.old) (N.room nodes.old) (N.next nodes.old) (N.slots nodes.old))
+        (known (N.is_taken nodes.new) (N.is_listed nodes.new) (N.is_plain nodes.new)
+        (N.room nodes.new) (N.next nodes.new) (N.slots nodes.new)) }
 {
     match shape.hub {
         Some(hub) => enter_branch(nodes, node, hub),
@@ -145,7 +167,9 @@ fn enter<N: Nodes>(nodes: &mut N, node: Link, shape: Shape) -> Frame
 
 // The form of a node that isn't gone, as a walk sees it.
 fn shape_left<N: Nodes>(nodes: &N, node: Link) -> Option<Shape>
-    ensures { (w : World) (way gone : List ℕ) → N.stands nodes.now w → AreMarks (N.marks nodes.now) way gone → SeesLeft result (is_in node.number.0 gone) (form_at node.number.0 w.nodes) }
+    ensures { (w : World) (way gone : List ℕ)
+        → N.stands nodes.now w → AreMarks (N.marks nodes.now) way gone
+        → SeesLeft result (is_in node.number.0 gone) (form_at node.number.0 w.nodes) }
 {
     if is_gone(nodes, node) {
         return None;
@@ -157,10 +181,19 @@ fn shape_left<N: Nodes>(nodes: &N, node: Link) -> Option<Shape>
 fn look_at<N: Nodes>(nodes: &mut N, frames: &mut Vec<Frame>, node: Link)
     requires bound { vec_len frames.old ≤ N.slots nodes.old + 1 }
     requires room { N.slots nodes.old + 1 ≤ vec_capacity frames.old }
-    ensures leads { (w : World) (gone : List ℕ) → N.stands nodes.old w → AreMarks (N.marks nodes.old) (way_of w [] frames.old.items) gone → AreThere w frames.old.items → Leads w (N.slots nodes.old + 1) (N.marks nodes.new) frames.new.items (all_gone w (N.slots nodes.old + 1) [] frames.old.items (gone ++ falling (Holding []) w (N.slots nodes.old + 1 - length frames.old.items) (way_of w [] frames.old.items) gone node.number.0)) }
-    ensures weight { weigh (N.slots nodes.old + 1) frames.new.items < weigh (N.slots nodes.old + 1) frames.old.items + cost (N.slots nodes.old + 1 - length frames.old.items) }
+    ensures leads { (w : World) (gone : List ℕ) → N.stands nodes.old w
+        → AreMarks (N.marks nodes.old) (way_of w [] frames.old.items) gone
+        → AreThere w frames.old.items → Leads w (N.slots nodes.old + 1) (N.marks nodes.new)
+        frames.new.items (all_gone w (N.slots nodes.old + 1) [] frames.old.items
+        (gone ++ falling (Holding []) w (N.slots nodes.old + 1 - length frames.old.items)
+        (way_of w [] frames.old.items) gone node.number.0)) }
+    ensures weight { weigh (N.slots nodes.old + 1) frames.new.items < weigh (N.slots nodes.old + 1)
+        frames.old.items + cost (N.slots nodes.old + 1 - length frames.old.items) }
     ensures stands { (w : World) → N.stands nodes.old w → N.stands nodes.new w }
-    ensures stays { Stays (known (N.is_taken nodes.old) (N.is_listed nodes.old) (N.is_plain nodes.old) (N.room nodes.old) (N.next nodes.old) (N.slots nodes.old)) (known (N.is_taken nodes.new) (N.is_listed nodes.new) (N.is_plain nodes.new) (N.room nodes.new) (N.next nodes.new) (N.slots nodes.new)) }
+    ensures stays { Stays (known (N.is_taken nodes.old) (N.is_listed nodes.old)
+        (N.is_plain nodes.old) (N.room nodes.old) (N.next nodes.old) (N.slots nodes.old))
+        (known (N.is_taken nodes.new) (N.is_listed nodes.new) (N.is_plain nodes.new)
+        (N.room nodes.new) (N.next nodes.new) (N.slots nodes.new)) }
     ensures bound { vec_len frames.new ≤ N.slots nodes.old + 1 }
     ensures room { vec_capacity frames.old ≤ vec_capacity frames.new }
 {
@@ -178,10 +211,16 @@ fn look_at<N: Nodes>(nodes: &mut N, frames: &mut Vec<Frame>, node: Link)
 fn go_on<N: Nodes>(nodes: &mut N, frames: &mut Vec<Frame>, frame: Frame)
     requires bound { vec_len frames.old + 1 ≤ N.slots nodes.old + 1 }
     requires room { N.slots nodes.old + 1 ≤ vec_capacity frames.old }
-    ensures leads { (w : World) (end : List ℕ) → N.stands nodes.old w → Leads w (N.slots nodes.old + 1) (N.marks nodes.old) (frames.old.items ++ frame ∷ []) end → Leads w (N.slots nodes.old + 1) (N.marks nodes.new) frames.new.items end }
-    ensures weight { weigh (N.slots nodes.old + 1) frames.new.items < weigh (N.slots nodes.old + 1) (frames.old.items ++ frame ∷ []) }
+    ensures leads { (w : World) (end : List ℕ) → N.stands nodes.old w
+        → Leads w (N.slots nodes.old + 1) (N.marks nodes.old) (frames.old.items ++ frame ∷ []) end
+        → Leads w (N.slots nodes.old + 1) (N.marks nodes.new) frames.new.items end }
+    ensures weight { weigh (N.slots nodes.old + 1) frames.new.items
+        < weigh (N.slots nodes.old + 1) (frames.old.items ++ frame ∷ []) }
     ensures stands { (w : World) → N.stands nodes.old w → N.stands nodes.new w }
-    ensures stays { Stays (known (N.is_taken nodes.old) (N.is_listed nodes.old) (N.is_plain nodes.old) (N.room nodes.old) (N.next nodes.old) (N.slots nodes.old)) (known (N.is_taken nodes.new) (N.is_listed nodes.new) (N.is_plain nodes.new) (N.room nodes.new) (N.next nodes.new) (N.slots nodes.new)) }
+    ensures stays { Stays (known (N.is_taken nodes.old) (N.is_listed nodes.old)
+        (N.is_plain nodes.old) (N.room nodes.old) (N.next nodes.old) (N.slots nodes.old))
+        (known (N.is_taken nodes.new) (N.is_listed nodes.new) (N.is_plain nodes.new)
+        (N.room nodes.new) (N.next nodes.new) (N.slots nodes.new)) }
     ensures bound { vec_len frames.new ≤ N.slots nodes.old + 1 }
     ensures room { vec_capacity frames.old ≤ vec_capacity frames.new }
 {
@@ -205,7 +244,8 @@ fn go_on<N: Nodes>(nodes: &mut N, frames: &mut Vec<Frame>, frame: Frame)
 /// at each branch those of its hub are looked at from the oldest on, up to the first that stays.
 pub fn would_free<N: Nodes>(nodes: &mut N, frames: &mut Vec<Frame>, root: Link, node: Link) -> bool
     requires room { N.slots nodes.old + 1 ≤ vec_capacity frames.old }
-    ensures goes { (w : World) → N.stands nodes.old w → result ≡ is_in node.number.0 (falling (Holding []) w (N.slots nodes.old + 1) [] [] root.number.0) }
+    ensures goes { (w : World) → N.stands nodes.old w → result
+        ≡ is_in node.number.0 (falling (Holding []) w (N.slots nodes.old + 1) [] [] root.number.0) }
     ensures stands { (w : World) → N.stands nodes.old w → N.stands nodes.new w }
     ensures taken { Same (N.is_taken nodes.old) (N.is_taken nodes.new) }
     ensures listed { Same (N.is_listed nodes.old) (N.is_listed nodes.new) }

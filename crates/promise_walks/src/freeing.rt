@@ -1,6 +1,7 @@
 //! Freeing a tree, with hubs and branches, by a stack.
 ghost use Rattle.std.specs.Prelude.{◌≡◌, ◌<◌, ◌≤◌, ◌+◌, ◌-◌, ◌++◌, [], ◌∷◌, ℕ, Some, IsSome, true, false, length, vec_len, vec_capacity};
-ghost use Rattle.kj_base.specs.Record.{Tells, Free};
+ghost use Rattle.kj_base.specs.Record.{Free};
+ghost use Rattle.promise_commands.specs.Telling.{Hears};
 ghost use Rattle.kj_model.specs.World.{World};
 ghost use Rattle.kj_model.specs.Nodes.{form_at};
 ghost use Rattle.kj_model.specs.Changes.{gone_world};
@@ -38,7 +39,8 @@ fn count_falling<N: Nodes>(
     is_last: bool,
 ) -> u8
     requires room { N.slots nodes.now + 1 ≤ vec_capacity search.old }
-    ensures count { (w : World) → N.stands nodes.now w → result ≡ falls_count is_last (is_guarded (guard_of guard) hub.number.0 w) }
+    ensures count { (w : World) → N.stands nodes.now w
+        → result ≡ falls_count is_last (is_guarded (guard_of guard) hub.number.0 w) }
     ensures room { vec_capacity search.old ≤ vec_capacity search.new }
 {
     if !is_last {
@@ -60,10 +62,12 @@ fn enter<N: Nodes, M: Names>(
     node: Link,
     shape: Shape,
 ) -> Frame
-    requires shape { (w : World) → N.stands nodes.old w → SeesShape (Some shape) (form_at node.number.0 w.nodes) }
+    requires shape { (w : World) → N.stands nodes.old w
+        → SeesShape (Some shape) (form_at node.number.0 w.nodes) }
     requires listed { N.is_listed nodes.old node.number.0 ≡ true → IsSome shape.hub }
     requires room { N.slots nodes.old + 1 ≤ vec_capacity search.old }
-    ensures enters { Enters (Both (N.stands nodes.old) (M.stands _names.now)) (Both (N.stands nodes.new) (M.stands _names.now)) (guard_of guard) node.number.0 result }
+    ensures enters { Enters (Both (N.stands nodes.old) (M.stands _names.now))
+        (Both (N.stands nodes.new) (M.stands _names.now)) (guard_of guard) node.number.0 result }
     ensures unlisted { N.is_listed nodes.new result.node.number.0 ≡ false }
     ensures taken { OnlyFalls (N.is_taken nodes.old) (N.is_taken nodes.new) }
     ensures listed { OnlyFalls (N.is_listed nodes.old) (N.is_listed nodes.new) }
@@ -103,8 +107,13 @@ fn open<N: Nodes, M: Names>(
     requires bound { vec_len stack.old ≤ N.slots nodes.old + 1 }
     requires stack_room { N.slots nodes.old + 1 ≤ vec_capacity stack.old }
     requires room { N.slots nodes.old + 1 ≤ vec_capacity search.old }
-    ensures moves { Moves (Both (N.stands nodes.old) (M.stands names.now)) (Both (N.stands nodes.new) (M.stands names.now)) (λ s. finish (guard_of guard) (N.slots nodes.old + 1) stack.old.items (free_to (guard_of guard) (N.slots nodes.old + 1 - length stack.old.items) node.number.0 s)) (finish (guard_of guard) (N.slots nodes.old + 1) stack.new.items) [] }
-    ensures weight { weigh (N.slots nodes.old + 1) stack.new.items < weigh (N.slots nodes.old + 1) stack.old.items + cost (N.slots nodes.old + 1 - length stack.old.items) }
+    ensures moves { Moves (Both (N.stands nodes.old) (M.stands names.now))
+        (Both (N.stands nodes.new) (M.stands names.now))
+        (λ s. finish (guard_of guard) (N.slots nodes.old + 1) stack.old.items
+        (free_to (guard_of guard) (N.slots nodes.old + 1 - length stack.old.items) node.number.0 s))
+        (finish (guard_of guard) (N.slots nodes.old + 1) stack.new.items) [] }
+    ensures weight { weigh (N.slots nodes.old + 1) stack.new.items < weigh (N.slots nodes.old + 1)
+        stack.old.items + cost (N.slots nodes.old + 1 - length stack.old.items) }
     ensures unlisted { AreUnlisted (N.is_listed nodes.new) stack.new.items }
     ensures taken { OnlyFalls (N.is_taken nodes.old) (N.is_taken nodes.new) }
     ensures listed { OnlyFalls (N.is_listed nodes.old) (N.is_listed nodes.new) }
@@ -128,8 +137,10 @@ fn open<N: Nodes, M: Names>(
 // A node goes whose parts are gone.
 fn close<N: Nodes, M: Names, S: Steps>(nodes: &mut N, names: &mut M, frame: Frame, steps: &mut S)
     requires unlisted { N.is_listed nodes.old frame.node.number.0 ≡ false }
-    ensures stands { (w : World) → Both (N.stands nodes.old) (M.stands names.old) w → Both (N.stands nodes.new) (M.stands names.new) (gone_world frame.node.number.0 (left_world frame.node.number.0 frame.leaving w)) }
-    ensures told { Tells (S.told steps.old) (Free frame.node.number.0 ∷ []) (S.told steps.new) }
+    ensures stands { (w : World) → Both (N.stands nodes.old) (M.stands names.old) w
+        → Both (N.stands nodes.new) (M.stands names.new)
+        (gone_world frame.node.number.0 (left_world frame.node.number.0 frame.leaving w)) }
+    ensures told { Hears (S.told steps.old) (Free frame.node.number.0 ∷ []) (S.told steps.new) }
     ensures lacks { S.lacks steps.new ≡ S.lacks steps.old }
     ensures taken { OnlyFalls (N.is_taken nodes.old) (N.is_taken nodes.new) }
     ensures listed { OnlyFalls (N.is_listed nodes.old) (N.is_listed nodes.new) }
@@ -160,9 +171,14 @@ fn go_on<N: Nodes, M: Names, S: Steps>(
     requires bound { vec_len stack.old + 1 ≤ N.slots nodes.old + 1 }
     requires stack_room { N.slots nodes.old + 1 ≤ vec_capacity stack.old }
     requires room { N.slots nodes.old + 1 ≤ vec_capacity search.old }
-    ensures does { Does (Both (N.stands nodes.old) (M.stands names.old)) (Both (N.stands nodes.new) (M.stands names.new)) (finish (guard_of guard) (N.slots nodes.old + 1) (stack.old.items ++ frame ∷ [])) (finish (guard_of guard) (N.slots nodes.old + 1) stack.new.items) (S.told steps.old) (S.told steps.new) }
+    ensures does { Does (Both (N.stands nodes.old) (M.stands names.old))
+        (Both (N.stands nodes.new) (M.stands names.new))
+        (finish (guard_of guard) (N.slots nodes.old + 1) (stack.old.items ++ frame ∷ []))
+        (finish (guard_of guard) (N.slots nodes.old + 1) stack.new.items) (S.told steps.old)
+        (S.told steps.new) }
     ensures lacks { S.lacks steps.new ≡ S.lacks steps.old }
-    ensures weight { weigh (N.slots nodes.old + 1) stack.new.items < weigh (N.slots nodes.old + 1) (stack.old.items ++ frame ∷ []) }
+    ensures weight { weigh (N.slots nodes.old + 1) stack.new.items
+        < weigh (N.slots nodes.old + 1) (stack.old.items ++ frame ∷ []) }
     ensures unlisted { AreUnlisted (N.is_listed nodes.new) stack.new.items }
     ensures taken { OnlyFalls (N.is_taken nodes.old) (N.is_taken nodes.new) }
     ensures listed { OnlyFalls (N.is_listed nodes.old) (N.is_listed nodes.new) }
@@ -205,7 +221,10 @@ pub fn free_tree<N: Nodes, M: Names, S: Steps>(
 )
     requires stack_room { N.slots nodes.old + 1 ≤ vec_capacity stack.old }
     requires room { N.slots nodes.old + 1 ≤ vec_capacity search.old }
-    ensures does { Does (Both (N.stands nodes.old) (M.stands names.old)) (Both (N.stands nodes.new) (M.stands names.new)) (free_to (guard_of guard) (N.slots nodes.old + 1) root.number.0) (λ s. s) (S.told steps.old) (S.told steps.new) }
+    ensures does { Does (Both (N.stands nodes.old) (M.stands names.old))
+        (Both (N.stands nodes.new) (M.stands names.new))
+        (free_to (guard_of guard) (N.slots nodes.old + 1) root.number.0) (λ s. s) (S.told steps.old)
+        (S.told steps.new) }
     ensures lacks { S.lacks steps.new ≡ S.lacks steps.old }
     ensures taken { OnlyFalls (N.is_taken nodes.old) (N.is_taken nodes.new) }
     ensures listed { OnlyFalls (N.is_listed nodes.old) (N.is_listed nodes.new) }
@@ -237,7 +256,9 @@ pub fn free_part<N: Nodes, M: Names, S: Steps>(
 )
     requires stack_room { N.slots nodes.old + 1 ≤ vec_capacity stack.old }
     requires room { N.slots nodes.old + 1 ≤ vec_capacity search.old }
-    ensures does { Does (Both (N.stands nodes.old) (M.stands names.old)) (Both (N.stands nodes.new) (M.stands names.new)) (freed root.number.0) (λ s. s) (S.told steps.old) (S.told steps.new) }
+    ensures does { Does (Both (N.stands nodes.old) (M.stands names.old))
+        (Both (N.stands nodes.new) (M.stands names.new)) (freed root.number.0) (λ s. s)
+        (S.told steps.old) (S.told steps.new) }
     ensures lacks { S.lacks steps.new ≡ S.lacks steps.old }
     ensures taken { OnlyFalls (N.is_taken nodes.old) (N.is_taken nodes.new) }
     ensures listed { OnlyFalls (N.is_listed nodes.old) (N.is_listed nodes.new) }
@@ -267,7 +288,10 @@ pub fn free_unreferenced<N: Nodes, M: Names, S: Steps>(
 )
     requires stack_room { N.slots nodes.old + 1 ≤ vec_capacity stack.old }
     requires room { N.slots nodes.old + 1 ≤ vec_capacity search.old }
-    ensures does { Does (Both (N.stands nodes.old) (M.stands names.old)) (Both (N.stands nodes.new) (M.stands names.new)) (reference_gone (guard_of guard) (free_to (guard_of guard) (N.slots nodes.old + 1)) hub.number.0) (λ s. s) (S.told steps.old) (S.told steps.new) }
+    ensures does { Does (Both (N.stands nodes.old) (M.stands names.old))
+        (Both (N.stands nodes.new) (M.stands names.new)) (reference_gone (guard_of guard)
+        (free_to (guard_of guard) (N.slots nodes.old + 1)) hub.number.0) (λ s. s) (S.told steps.old)
+        (S.told steps.new) }
     ensures lacks { S.lacks steps.new ≡ S.lacks steps.old }
     ensures taken { OnlyFalls (N.is_taken nodes.old) (N.is_taken nodes.new) }
     ensures listed { OnlyFalls (N.is_listed nodes.old) (N.is_listed nodes.new) }

@@ -16,9 +16,16 @@ use promise_nodes::Nodes;
 fn look_into<N: Nodes>(nodes: &N, search: &mut Vec<Parts>, at: Link, node: Link) -> bool
     requires bound { vec_len search.old ≤ N.slots nodes.now + 1 }
     requires room { N.slots nodes.now + 1 ≤ vec_capacity search.old }
-    ensures found { result ≡ true → (w : World) → holds (N.slots nodes.now + 1 - length search.old.items) w.nodes node.number.0 at.number.0 ≡ true }
-    ensures seeks { result ≡ false → (w : World) → N.stands nodes.now w → seek w.nodes node.number.0 (N.slots nodes.now + 1) search.new.items ≡ (seek w.nodes node.number.0 (N.slots nodes.now + 1) search.old.items || holds (N.slots nodes.now + 1 - length search.old.items) w.nodes node.number.0 at.number.0) }
-    ensures weight { weigh_parts (N.slots nodes.now + 1) search.new.items < weigh_parts (N.slots nodes.now + 1) search.old.items + cost (N.slots nodes.now + 1 - length search.old.items) }
+    ensures found { result ≡ true → (w : World)
+        → holds (N.slots nodes.now + 1 - length search.old.items) w.nodes node.number.0 at.number.0
+        ≡ true }
+    ensures seeks { result ≡ false → (w : World)
+        → N.stands nodes.now w → seek w.nodes node.number.0 (N.slots nodes.now + 1) search.new.items
+        ≡ (seek w.nodes node.number.0 (N.slots nodes.now + 1) search.old.items || holds
+        (N.slots nodes.now + 1 - length search.old.items) w.nodes node.number.0 at.number.0) }
+    ensures weight { weigh_parts (N.slots nodes.now + 1) search.new.items
+        < weigh_parts (N.slots nodes.now + 1) search.old.items
+        + cost (N.slots nodes.now + 1 - length search.old.items) }
     ensures bound { vec_len search.new ≤ N.slots nodes.now + 1 }
     ensures room { vec_capacity search.old ≤ vec_capacity search.new }
 {
@@ -39,9 +46,14 @@ fn look_into<N: Nodes>(nodes: &N, search: &mut Vec<Parts>, at: Link, node: Link)
 fn search_on<N: Nodes>(nodes: &N, search: &mut Vec<Parts>, parts: Parts, node: Link) -> bool
     requires bound { vec_len search.old + 1 ≤ N.slots nodes.now + 1 }
     requires room { N.slots nodes.now + 1 ≤ vec_capacity search.old }
-    ensures found { result ≡ true → (w : World) → N.stands nodes.now w → seek w.nodes node.number.0 (N.slots nodes.now + 1) (search.old.items ++ parts ∷ []) ≡ true }
-    ensures seeks { result ≡ false → (w : World) → N.stands nodes.now w → seek w.nodes node.number.0 (N.slots nodes.now + 1) search.new.items ≡ seek w.nodes node.number.0 (N.slots nodes.now + 1) (search.old.items ++ parts ∷ []) }
-    ensures weight { weigh_parts (N.slots nodes.now + 1) search.new.items < weigh_parts (N.slots nodes.now + 1) (search.old.items ++ parts ∷ []) }
+    ensures found { result ≡ true → (w : World) → N.stands nodes.now w
+        → seek w.nodes node.number.0 (N.slots nodes.now + 1) (search.old.items ++ parts ∷ [])
+        ≡ true }
+    ensures seeks { result ≡ false → (w : World)
+        → N.stands nodes.now w → seek w.nodes node.number.0 (N.slots nodes.now + 1) search.new.items
+        ≡ seek w.nodes node.number.0 (N.slots nodes.now + 1) (search.old.items ++ parts ∷ []) }
+    ensures weight { weigh_parts (N.slots nodes.now + 1) search.new.items
+        < weigh_parts (N.slots nodes.now + 1) (search.old.items ++ parts ∷ []) }
     ensures bound { vec_len search.new ≤ N.slots nodes.now + 1 }
     ensures room { vec_capacity search.old ≤ vec_capacity search.new }
 {
@@ -56,7 +68,8 @@ fn search_on<N: Nodes>(nodes: &N, search: &mut Vec<Parts>, parts: Parts, node: L
 /// have anything in it.
 pub fn holds<N: Nodes>(nodes: &N, search: &mut Vec<Parts>, node: Link, root: Link) -> bool
     requires room { N.slots nodes.now + 1 ≤ vec_capacity search.old }
-    ensures holds { (w : World) → N.stands nodes.now w → result ≡ holds (N.slots nodes.now + 1) w.nodes node.number.0 root.number.0 }
+    ensures holds { (w : World) → N.stands nodes.now w
+        → result ≡ holds (N.slots nodes.now + 1) w.nodes node.number.0 root.number.0 }
     ensures room { vec_capacity search.old ≤ vec_capacity search.new }
 {
     search.clear();
@@ -74,7 +87,8 @@ pub fn holds<N: Nodes>(nodes: &N, search: &mut Vec<Parts>, node: Link, root: Lin
 // Whether the guard keeps this hub.
 pub(crate) fn is_kept<N: Nodes>(nodes: &N, search: &mut Vec<Parts>, guard: Guard, hub: Link) -> bool
     requires room { N.slots nodes.now + 1 ≤ vec_capacity search.old }
-    ensures kept { (w : World) → N.stands nodes.now w → result ≡ is_guarded (guard_of guard) hub.number.0 w }
+    ensures kept { (w : World) → N.stands nodes.now w
+        → result ≡ is_guarded (guard_of guard) hub.number.0 w }
     ensures room { vec_capacity search.old ≤ vec_capacity search.new }
 {
     match guard {

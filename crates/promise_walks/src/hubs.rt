@@ -23,7 +23,8 @@ fn unnamed_form(form: &Form) -> Option<Form>
 
 /// A hub has no name now.
 pub fn unname_hub<N: Nodes>(nodes: &mut N, hub: Link)
-    ensures stands { (w : World) → N.stands nodes.old w → N.stands nodes.new (hub_unnamed hub.number.0 w) }
+    ensures stands { (w : World) → N.stands nodes.old w
+        → N.stands nodes.new (hub_unnamed hub.number.0 w) }
     ensures taken { OnlyFalls (N.is_taken nodes.old) (N.is_taken nodes.new) }
     ensures plain { OnlyRises (N.is_plain nodes.old) (N.is_plain nodes.new) }
     ensures next { N.next nodes.new ≡ N.next nodes.old }

@@ -17,7 +17,8 @@ use kj_base::{Link, Outcome};
 
 // The outcomes that the Sides of a fast join keep, joined.
 pub(crate) fn join_kept<L: Land>(land: &L, sides: Parts) -> Outcome
-    ensures { (w : World) → L.stands land.now w → joined (kept_in w.nodes (numbers_of sides)) ≡ result }
+    ensures { (w : World) → L.stands land.now w
+        → joined (kept_in w.nodes (numbers_of sides)) ≡ result }
 {
     let mut sum = no_sum();
     let mut left = sides;
@@ -39,7 +40,8 @@ fn take_side<L: Land>(
     requires plain { ArePlain (L.is_plain land.now) stack.old.items }
     requires room { vec_len stack.old < vec_capacity stack.old }
     ensures stack { stack.new.items ≡ stack_taken stack.old.items sum side behind result }
-    ensures taken { (value : Valuing) (s : State) → L.stands land.now s.world → IsTaken value s sum side behind result }
+    ensures taken { (value : Valuing) (s : State) → L.stands land.now s.world
+        → IsTaken value s sum side behind result }
     ensures plain { ArePlain (L.is_plain land.now) stack.new.items }
     ensures room { vec_capacity stack.old ≤ vec_capacity stack.new }
 {
@@ -65,8 +67,14 @@ pub(crate) fn go_through<L: Land>(land: &L, stack: &mut Vec<Pending>, sum: Sum, 
     requires plain { ArePlain (L.is_plain land.now) stack.old.items }
     requires bound { vec_len stack.old < L.slots land.now + 1 }
     requires room { L.slots land.now + 1 ≤ vec_capacity stack.old }
-    ensures same { (setting : Setting) (s : State) → L.stands land.now s.world → climb setting (L.slots land.now + 1) stack.old.items (all_summed (value_to setting (L.slots land.now - length stack.old.items)) sum (numbers_of sides) s) ≡ is_at setting (L.slots land.now + 1) stack.new.items result s }
-    ensures weight { weigh (L.slots land.now + 1) stack.new.items + weigh_at (L.slots land.now + 1 - length stack.new.items) result ≤ weigh (L.slots land.now + 1) stack.old.items + sides.count * (cost (L.slots land.now - length stack.old.items) + 1) }
+    ensures same { (setting : Setting) (s : State) → L.stands land.now s.world
+        → climb setting (L.slots land.now + 1) stack.old.items (all_summed
+        (value_to setting (L.slots land.now - length stack.old.items)) sum (numbers_of sides) s)
+        ≡ is_at setting (L.slots land.now + 1) stack.new.items result s }
+    ensures weight { weigh (L.slots land.now + 1) stack.new.items
+        + weigh_at (L.slots land.now + 1 - length stack.new.items) result
+        ≤ weigh (L.slots land.now + 1) stack.old.items + sides.count
+        * (cost (L.slots land.now - length stack.old.items) + 1) }
     ensures plain { ArePlain (L.is_plain land.now) stack.new.items }
     ensures bound { vec_len stack.new ≤ L.slots land.now + 1 }
     ensures room { vec_capacity stack.old ≤ vec_capacity stack.new }

@@ -56,21 +56,25 @@ pub trait Land {
 
     /// The form of a live node; none where it isn't live.
     fn form(&self, node: Link) -> Option<&Form>
-        ensures form { (w : World) → stands self.now w → Sees (option_copied result) (form_at node.number.0 w.nodes) }
-        ensures plain { ShowsPlain (option_copied result) → is_plain self.now node.number.0 ≡ true };
+        ensures form { (w : World) → stands self.now w
+            → Sees (option_copied result) (form_at node.number.0 w.nodes) }
+        ensures plain { ShowsPlain (option_copied result)
+            → is_plain self.now node.number.0 ≡ true };
 
     /// A node has this form now, where it is live; it owns nothing.
     fn put_bare(&mut self, node: Link, form: Form)
         requires plain { is_plain self.old node.number.0 ≡ true }
         requires bare { IsBare form }
-        ensures stands { (w : World) → stands self.old w → stands self.new (put node.number.0 (shown [] form) w) }
+        ensures stands { (w : World) → stands self.old w
+            → stands self.new (put node.number.0 (shown [] form) w) }
         ensures plain { OnlyRises (is_plain self.old) (is_plain self.new) }
         ensures slots { slots self.new ≡ slots self.old }
         ensures over { over self.new ≡ over self.old };
 
     /// A tree goes while an event fires.
     fn free_part<S: Steps>(&mut self, tree: Link, steps: &mut S)
-        ensures does { Does (stands self.old) (stands self.new) (freed tree.number.0) (λ s. s) (S.told steps.old) (S.told steps.new) }
+        ensures does { Does (stands self.old) (stands self.new) (freed tree.number.0) (λ s. s)
+            (S.told steps.old) (S.told steps.new) }
         ensures lacks { S.lacks steps.new ≡ S.lacks steps.old }
         ensures plain { OnlyRises (is_plain self.old) (is_plain self.new) }
         ensures slots { slots self.new ≡ slots self.old }
@@ -85,7 +89,9 @@ pub trait Land {
         input: Outcome,
         steps: &mut S,
     ) -> Result<Given, NoMemory>
-        ensures gives { Gives (stands self.old) (stands self.new) rule (λ setting s. run_step setting under_chain node.number.0 step.0 input s) gave_given (S.told steps.old) (S.told steps.new) result }
+        ensures gives { Gives (stands self.old) (stands self.new)
+            rule (λ setting s. run_step setting under_chain node.number.0 step.0 input s) gave_given
+            (S.told steps.old) (S.told steps.new) result }
         ensures lacks { HasLacked (is_err result) (S.lacks steps.old) (S.lacks steps.new) }
         ensures root { GivesRoot (roots self.new) (is_taken self.new) (next self.new) result }
         ensures plain { OnlyRises (is_plain self.old) (is_plain self.new) }
@@ -100,7 +106,8 @@ pub trait Land {
 pub fn put_bare<N: Nodes>(nodes: &mut N, node: Link, form: Form)
     requires plain { N.is_plain nodes.old node.number.0 ≡ true }
     requires bare { IsBare form }
-    ensures stands { (w : World) → N.stands nodes.old w → N.stands nodes.new (put node.number.0 (shown [] form) w) }
+    ensures stands { (w : World) → N.stands nodes.old w
+        → N.stands nodes.new (put node.number.0 (shown [] form) w) }
     ensures taken { OnlyFalls (N.is_taken nodes.old) (N.is_taken nodes.new) }
     ensures listed { OnlyFalls (N.is_listed nodes.old) (N.is_listed nodes.new) }
     ensures plain { OnlyRises (N.is_plain nodes.old) (N.is_plain nodes.new) }

@@ -18,7 +18,8 @@ use promise_commands::Steps;
 
 // A Then that has its tree.
 fn continuation<L: Land>(land: &L, node: Link) -> Option<Continuation>
-    ensures seen { (w : World) → L.stands land.now w → IsContinuation result (form_at node.number.0 w.nodes) }
+    ensures seen { (w : World) → L.stands land.now w
+        → IsContinuation result (form_at node.number.0 w.nodes) }
     ensures node { IfSome result (λ then. then.node ≡ node) }
     ensures plain { IfSome result (λ then. L.is_plain land.now then.node.number.0 ≡ true) }
 {
@@ -48,7 +49,9 @@ pub fn evaluate_link<L: Land, S: Steps>(
     steps: &mut S,
 ) -> Result<Given, NoMemory>
     requires room { L.slots land.old + 1 ≤ vec_capacity stack.old }
-    ensures gives { Gives (L.stands land.old) (L.stands land.new) L.rule (λ setting s. value_link setting link.number.0 s) gave_given (S.told steps.old) (S.told steps.new) result }
+    ensures gives { Gives (L.stands land.old) (L.stands land.new)
+        L.rule (λ setting s. value_link setting link.number.0 s) gave_given (S.told steps.old)
+        (S.told steps.new) result }
     ensures lacks { HasLacked (is_err result) (S.lacks steps.old) (S.lacks steps.new) }
     ensures root { GivesRoot (L.roots land.new) (L.is_taken land.new) (L.next land.new) result }
     ensures plain { OnlyRises (L.is_plain land.old) (L.is_plain land.new) }

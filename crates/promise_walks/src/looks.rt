@@ -119,7 +119,8 @@ fn look_of(form: &Form) -> Look
 
 // What the outcome of a node is, or depends on.
 pub(crate) fn look_at<L: Land>(land: &L, node: Link) -> Look
-    ensures look { (w : World) → L.stands land.now w → IsLook result (form_at node.number.0 w.nodes) }
+    ensures look { (w : World) → L.stands land.now w
+        → IsLook result (form_at node.number.0 w.nodes) }
     ensures plain { IfThen result (L.is_plain land.now node.number.0 ≡ true) }
 {
     match land.form(node) {
@@ -153,7 +154,8 @@ fn look_of_side(form: &Form) -> SideLook
 
 // What the outcome of a Side is, or its tree whose event has fired.
 pub(crate) fn look_side<L: Land>(land: &L, side: Link) -> SideLook
-    ensures look { (w : World) → L.stands land.now w → IsSideLook result (form_at side.number.0 w.nodes) }
+    ensures look { (w : World) → L.stands land.now w
+        → IsSideLook result (form_at side.number.0 w.nodes) }
     ensures plain { IfFired result (L.is_plain land.now side.number.0 ≡ true) }
 {
     match land.form(side) {
@@ -164,7 +166,8 @@ pub(crate) fn look_side<L: Land>(land: &L, side: Link) -> SideLook
 
 // The outcome of a hub.
 pub(crate) fn hub_outcome<L: Land>(land: &L, hub: Link) -> Outcome
-    ensures { (w : World) → L.stands land.now w → hub_outcome (form_at hub.number.0 w.nodes) ≡ result }
+    ensures { (w : World) → L.stands land.now w
+        → hub_outcome (form_at hub.number.0 w.nodes) ≡ result }
 {
     match land.form(hub) {
         Some(Form::Hub { content, .. }) => outcome_of(content),
@@ -174,7 +177,8 @@ pub(crate) fn hub_outcome<L: Land>(land: &L, hub: Link) -> Outcome
 
 // The outcome that a Side of a fast join keeps.
 pub(crate) fn kept<L: Land>(land: &L, side: Link) -> Option<Outcome>
-    ensures { (w : World) → L.stands land.now w → kept_of (form_at side.number.0 w.nodes) ≡ option_to_list result }
+    ensures { (w : World) → L.stands land.now w
+        → kept_of (form_at side.number.0 w.nodes) ≡ option_to_list result }
 {
     match land.form(side) {
         Some(

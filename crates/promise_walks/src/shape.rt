@@ -151,7 +151,8 @@ fn hub_of(form: &Form) -> Option<Link>
 
 // What a walk sees of a live node.
 pub(crate) fn shape_at<N: Nodes>(nodes: &N, node: Link) -> Option<Shape>
-    ensures shape { (w : World) → N.stands nodes.now w → SeesShape result (form_at node.number.0 w.nodes) }
+    ensures shape { (w : World) → N.stands nodes.now w
+        → SeesShape result (form_at node.number.0 w.nodes) }
     ensures listed { N.is_listed nodes.now node.number.0 ≡ true → HasHub result }
 {
     let form = nodes.form(node)?;

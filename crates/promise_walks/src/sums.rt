@@ -27,7 +27,8 @@ pub(crate) fn no_sum() -> Sum
 
 // More words.
 fn append(words: Words, more: &Words) -> Sum
-    ensures { result ≡ words_or_too_long (nat_le (length (words ++ more.now)) 16) (words ++ more.now) }
+    ensures { result
+        ≡ words_or_too_long (nat_le (length (words ++ more.now)) 16) (words ++ more.now) }
 {
     let mut words = words;
     let source = more.as_slice();

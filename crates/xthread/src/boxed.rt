@@ -96,7 +96,8 @@ impl<P: Sent + Drop, R: Send + Drop> Boxed<P, R> {
     pub(crate) fn is_unstarted(&self, request: u32) -> bool
         requires { request < length (board self.now).requests }
         ensures { (before : List Entry) → self.now.entries ≡ before ++ entry 0 Close Done ∷ []
-            → waits (slice_get (board_of self.now.limit before).requests request) ≡ cond result 1 0 }
+            → waits (slice_get (board_of self.now.limit before).requests request)
+            ≡ cond result 1 0 }
     {
         self.guarded.is_unstarted(request)
     }

@@ -25,5 +25,5 @@ returns-clause-applied g c cmd is =
     (λ w old. sym (c.in_ok-check.ensures.refusal w old)) (λ w old p. refl)
     (λ w old p.
     let same = ap (λ (form : Form). leaf_built c.args.name.0 form w) c.ready_with_nothing.ensures
-        ∙ empty_at_once c.args.name.0 c.args.group.0 w (g.met.M.Names.no_members c.args.names.now w c.args.group.0 old.1) in
+    ∙ empty_at_once c.args.name.0 c.args.group.0 w (g.met.M.Names.no_members c.args.names.now w c.args.group.0 old.1) in
     subst New same (c.build_leaf.ensures.stands w old (listless c.args.name.0 w (new_absent c.args.name.0 (use_as IsGroupAlone c.args.group.0 ∷ []) w p))))

@@ -5,7 +5,7 @@ use Rattle.kj_model.specs.Changes.{put, silent, gone}
 use Rattle.kj_model.specs.Value.{freed}
 use Rattle.kj_model.specs.Fire.{set_left, without_left_over, task_valued}
 use Rattle.promise_walks.specs.Walks.{Both}
-use Rattle.promise_walks.proofs.Composed.{moves_then, tells_then}
+use Rattle.promise_walks.proofs.Composed.{moves_then, hears_then}
 use Rattle.promise_firing.proofs.Changing.{moves_silent}
 use Rattle.promise_firing.proofs.Kept.{keeps_rest}
 use Rattle.promise_firing.proofs.Tasks.{task_left_is}
@@ -24,7 +24,7 @@ returns-clause-does g c =
     let drop = c.drop_plain.ensures.does in
     record {
       items = free.items ++ drop.items;
-      told = tells_then _ _ _ free.items drop.items free.told drop.told;
+      told = hears_then _ _ _ free.items drop.items free.told drop.told;
       moves = λ setting o.
           let first = moves_silent A B C (freed t) (task_valued setting n t (Some o)) (gone n) change free.items free.moves
           (λ s stands mid. (

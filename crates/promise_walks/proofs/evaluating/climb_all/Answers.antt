@@ -1,14 +1,32 @@
-use Rattle.std.proofs.Common.{◌≡◌, ◌∙◌, sym, ap, subst, arith, ◌+◌, ◌++◌, ◌∷◌, [], ℕ, List, Some}
+use Rattle.std.proofs.Common.{◌≡◌, ◌∙◌, refl, sym, ap, subst, arith, ◌+◌, ◌++◌, ◌∷◌, [], ℕ, List, Some}
 use Rattle.kj_base.specs.declared.outcomes.Outcome.{Outcome}
 use Rattle.kj_model.specs.World.{State, Setting}
 use Rattle.kj_model.specs.Value.{value_to}
 use Rattle.promise_walks.specs.declared.pending.At.{At}
 use Rattle.promise_walks.specs.declared.pending.Pending.{Pending}
 use Rattle.promise_walks.specs.Values.{Valued, Walked, gave}
-use Rattle.promise_walks.specs.Climbs.{climb, is_at}
-use Rattle.promise_walks.proofs.Answering.{walked_as, walked_fails, walked_on}
+use Rattle.promise_walks.specs.Climbs.{ArePlain, climb, is_at}
+use Rattle.promise_walks.specs.declared.pending.At.TheVariants.{Down}
+use Rattle.promise_walks.proofs.Answering.{walked_as, walked_begun, walked_fails, walked_on}
 use Rattle.promise_walks.proofs.Composed.{rises_then}
 use Rattle.promise_walks.proofs.evaluating.climb_all.Goals as goal
+
+pub walking-init : goal.walking-init
+walking-init g c =
+    let d = g.L.Land.slots c.args.land.now + 1 in
+    let empty = c.clear.ensures.items in
+    record {
+      walked = walked_begun (g.L.Land.stands c.args.land.now) g.L.Land.rule (λ setting s. value_to setting d c.args.root.number.0 s) (λ setting s. is_at setting d c.clear.new.self.items (Down c.args.root) s) (g.S.Steps.told c.args.steps.now)
+          (λ setting s. ap (λ (l : List Pending). is_at setting d l (Down c.args.root) s) empty);
+      lacks = refl;
+      stack = subst (λ (l : List Pending). ArePlain (g.L.Land.is_plain c.args.land.now) l) (sym empty) tt;
+      plain = λ n h. h;
+      slots = refl;
+      over = refl;
+      bound = omega (arith, c.clear.ensures.len);
+      room = omega (arith, c.requires.room, c.clear.ensures.capacity);
+      more = omega (arith, c.clear.ensures.capacity);
+    }
 
 pub walking-preserved : goal.walking-preserved
 walking-preserved g c =

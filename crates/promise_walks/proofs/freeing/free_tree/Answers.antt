@@ -4,7 +4,7 @@ use Rattle.kj_model.specs.Free.{free_to}
 use Rattle.promise_walks.specs.declared.freeing.Frame.{Frame}
 use Rattle.promise_walks.specs.Walks.{Both, Does, guard_of}
 use Rattle.promise_walks.specs.Stacks.{AreUnlisted, finish}
-use Rattle.promise_walks.proofs.Composed.{does_then, tells_none, falls_then, rises_then}
+use Rattle.promise_walks.proofs.Composed.{does_then, hears_none, falls_then, rises_then}
 use Rattle.promise_walks.proofs.freeing.free_tree.Goals as goal
 
 pub open-requires-clause-unlisted : goal.open-requires-clause-unlisted
@@ -24,7 +24,7 @@ falling-init g c =
     record {
       does = record {
         items = [];
-        told = tells_none (g.S.Steps.told c.args.steps.now);
+        told = hears_none (g.S.Steps.told c.args.steps.now);
         moves = λ s stands. let r = done.moves s stands in record {
           state = r.state;
           stands = r.stands;

@@ -7,7 +7,7 @@ use Rattle.promise_nodes.specs.Shown.{run_from}
 use Rattle.promise_nodes.specs.Kept.{is_unreferenced}
 use Rattle.promise_walks.specs.Walks.{Both, guard_of}
 use Rattle.promise_walks.specs.Stacks.{falls_count}
-use Rattle.promise_walks.proofs.Composed.{does_from, tells_none}
+use Rattle.promise_walks.proofs.Composed.{does_from, hears_none}
 use Rattle.promise_walks.proofs.Entered.{unreferenced_counts}
 use Rattle.promise_walks.proofs.freeing.free_unreferenced.Goals as goal
 
@@ -39,7 +39,7 @@ returns-then-count-eq0-clause-does g c =
     let hub = c.args.hub.number.0 in
     record {
       items = [];
-      told = tells_none (g.S.Steps.told c.args.steps.now);
+      told = hears_none (g.S.Steps.told c.args.steps.now);
       moves = λ s stands. record {
         state = s;
         stands = stands;

@@ -6,7 +6,7 @@ use Rattle.kj_model.specs.Free.{free_to}
 use Rattle.promise_walks.specs.declared.freeing.Frame.{Frame}
 use Rattle.promise_walks.specs.Walks.{guard_of, left_as}
 use Rattle.promise_walks.specs.Stacks.{AreUnlisted, finish, weigh, cost}
-use Rattle.promise_walks.proofs.Composed.{tells_none}
+use Rattle.promise_walks.proofs.Composed.{hears_none}
 use Rattle.promise_walks.proofs.Finished.{finished_next, finished_none, weight_falls, weight_gone}
 use Rattle.promise_walks.proofs.Unlisted.{unlisted_pop, unlisted_push, unlisted_stay}
 use Rattle.promise_walks.proofs.freeing.go_on.Goals as goal
@@ -55,7 +55,7 @@ returns-clause-does g c =
     let h : Frame = record { node = f.node; parts = c.rest.result; leaving = f.leaving } in
     record {
       items = [];
-      told = tells_none (g.S.Steps.told c.args.steps.now);
+      told = hears_none (g.S.Steps.told c.args.steps.now);
       moves = λ s stands. let r = c.open.ensures.moves s stands in record {
         state = r.state;
         stands = r.stands;

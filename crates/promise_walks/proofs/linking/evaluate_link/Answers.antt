@@ -8,7 +8,7 @@ use Rattle.kj_model.specs.Value.{Given, Gave, then_valued, value, value_link}
 use Rattle.promise_walks.specs.Values.{Valued, gave, gave_given}
 use Rattle.promise_walks.proofs.Answering.{gives_from, gives_none, gives_over, gives_then, goes_from, goes_here, goes_over}
 use Rattle.promise_walks.proofs.Climbed.{then_link}
-use Rattle.promise_walks.proofs.Composed.{tells_none}
+use Rattle.promise_walks.proofs.Composed.{hears_none}
 use Rattle.promise_walks.proofs.linking.evaluate_link.Goals as goal
 
 pub returns-in_default-clause-gives : goal.returns-in_default-clause-gives
@@ -16,7 +16,7 @@ returns-in_default-clause-gives g c =
     let n = c.args.link.number.0 in
     record {
       items = [];
-      told = tells_none (g.S.Steps.told c.args.steps.now);
+      told = hears_none (g.S.Steps.told c.args.steps.now);
       same = goes_here (g.L.Land.stands c.args.land.now) g.L.Land.rule (λ setting s. value_link setting n s) (λ setting s. (s, Some (Gave c.void.result)))
           (λ setting s stands. c.in_default.ensures.seen s.world stands setting (value setting) n s ∙ ap (λ (o : Outcome). (s, Some (Gave o))) (sym c.void.ensures));
     }
