@@ -33,9 +33,9 @@ rename-self-inside-requires-clause-apart c name other root is too =
     let held = held_listed names.tree names.cut.at names.cut.step c.self.invariant.names.split in
     let at : names.cut.at ≡ 2147483648 = ap (λ (cut : Cut). cut.at) c.self.invariant.names_cut in
     let seen : (n : ℕ) → root_in n names.tree ≡ Some root → root_at (view_of c.self.inside) n ≡ Some root = λ n h.
-        let some : IsSome (value_at n names.tree) = some_held (value_at n names.tree) (ap is_some h) in
-        let low : n < awaited_key = let within = c.self.invariant.names.within n some in omega (arith, within, at) in
-        root_named (view_of c.self.inside) n low ∙ ap root_of (held n) ∙ h in
+    let some : IsSome (value_at n names.tree) = some_held (value_at n names.tree) (ap is_some h) in
+    let low : n < awaited_key = let within = c.self.invariant.names.within n some in omega (arith, within, at) in
+    root_named (view_of c.self.inside) n low ∙ ap root_of (held n) ∙ h in
     apart name other root (seen name is) (seen other too)
 
 pub invariant_of-self : goal.invariant_of-self
