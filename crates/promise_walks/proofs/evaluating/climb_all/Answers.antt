@@ -1,4 +1,4 @@
-use Rattle.std.proofs.Common.{◌≡◌, ◌∙◌, refl, sym, ap, subst, arith, ◌+◌, ◌++◌, ◌∷◌, [], ℕ, List, Some}
+use Rattle.std.proofs.Common.{◌≡◌, ◌∙◌, refl, sym, ap, subst, arith, ◌+◌, ◌-◌, ◌++◌, ◌∷◌, [], ℕ, List, Some}
 use Rattle.kj_base.specs.declared.outcomes.Outcome.{Outcome}
 use Rattle.kj_model.specs.World.{State, Setting}
 use Rattle.kj_model.specs.Value.{value_to}
@@ -15,9 +15,10 @@ pub walking-init : goal.walking-init
 walking-init g c =
     let d = g.L.Land.slots c.args.land.now + 1 in
     let empty = c.clear.ensures.items in
+    let whole : d - 0 ≡ d = omega arith in
     record {
       walked = walked_begun (g.L.Land.stands c.args.land.now) g.L.Land.rule (λ setting s. value_to setting d c.args.root.number.0 s) (λ setting s. is_at setting d c.clear.new.self.items (Down c.args.root) s) (g.S.Steps.told c.args.steps.now)
-          (λ setting s. ap (λ (l : List Pending). is_at setting d l (Down c.args.root) s) empty);
+          (λ setting s. ap (λ (l : List Pending). is_at setting d l (Down c.args.root) s) empty ∙ ap (λ (k : ℕ). value_to setting k c.args.root.number.0 s) whole);
       lacks = refl;
       stack = subst (λ (l : List Pending). ArePlain (g.L.Land.is_plain c.args.land.now) l) (sym empty) tt;
       plain = λ n h. h;
