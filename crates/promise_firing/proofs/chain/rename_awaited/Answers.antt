@@ -14,4 +14,4 @@ returns-clause-stands g c w stands =
     let old = c.args.old.number.0 in
     let new = c.args.new.number.0 in
     c.set_awaited.ensures.stands w (awaited_renamed old new w.awaited) stands
-    (root_is old new w.awaited ∙ ap (root_renamed old new) (c.awaited.ensures w stands) ∙ sym c.renamed_awaited.ensures)
+    (root_is old new w.awaited ∙ ap (root_renamed old new) (c.awaited-awaited.ensures w stands) ∙ sym c.renamed_awaited.ensures)

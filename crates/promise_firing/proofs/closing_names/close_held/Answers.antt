@@ -22,3 +22,8 @@ pub returns-in-Group-clause-does : goal.returns-in-Group-clause-does
 returns-in-Group-clause-does g c =
     let A : World → Type 0 = Both (g.N.Nodes.stands c.args.nodes.now) (g.M.Names.stands c.args.names.now) in
     does_from A A (λ s. s) (closed_held (held_shown [] c.args.held)) (λ s. s) _ _ (λ s stands. ap (λ (h : Held). closed_held (held_shown [] h) s) (sym c.in-Group.is)) (does_none A _)
+
+pub returns-in-Canceler-clause-does : goal.returns-in-Canceler-clause-does
+returns-in-Canceler-clause-does g c =
+    let A : World → Type 0 = Both (g.N.Nodes.stands c.args.nodes.now) (g.M.Names.stands c.args.names.now) in
+    does_from A A (λ s. s) (closed_held (held_shown [] c.args.held)) (λ s. s) _ _ (λ s stands. ap (λ (h : Held). closed_held (held_shown [] h) s) (sym c.in-Canceler.is)) (does_none A _)
