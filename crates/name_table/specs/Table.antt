@@ -22,9 +22,11 @@ pub record Table : Type 0 where
 abbrev pub view_of : Inside → Table
 view_of t = record { entries = t.entries.items; limit = t.limit; awaited = t.awaited; over = t.over.items; stopped = t.stopped }
 
--- the names rise, and there is room for all that there may be, and one more
+-- the names rise, and there is room for all that there may be, which a `u32` counts, and one more
 pub record IsKept (t : Inside) : Type 0 where
   pub rising : IsRising t.entries.items
+  pub few : length t.entries.items ≤ t.limit + 1
+  pub counted : t.limit < 2 ^ 32
   pub room : t.limit + 1 ≤ vec_capacity t.entries
   pub room_over : 2 ≤ vec_capacity t.over
 

@@ -1,5 +1,5 @@
 //! A keeper of names.
-ghost use Rattle.std.specs.Prelude.{◌≡◌, ◌+◌, ◌<◌, ◌≤◌, ◌++◌, ◌∷◌, [], ℕ, List, Option, None, Some, Bool, true, false, IsSome, length, slice_get};
+ghost use Rattle.std.specs.Prelude.{◌≡◌, ◌+◌, ◌<◌, ◌≤◌, ◌++◌, ◌∷◌, ◌^◌, [], ℕ, List, Option, None, Some, Bool, true, false, IsSome, length, slice_get};
 ghost use Rattle.kj_model.specs.World.{World, Promise, RequestOf, held_at};
 ghost use Rattle.kj_model.specs.Nodes.{dropped};
 ghost use Rattle.kj_model.specs.Calls.{with_awaited};
@@ -79,6 +79,7 @@ pub trait Names {
     fn len(&self) -> u64
         ensures count { result ≤ count self.now }
         ensures awaited { count self.now ≤ result + 1 }
+        ensures bound { result ≤ 2 ^ 32 }
         ensures names { (w : World) → stands self.now w → length w.names ≡ result };
 
     /// How many names there may be.

@@ -11,6 +11,8 @@ invariant_of-self c =
     let kept = c.self.invariant in
     record {
       rising = subst IsRising (sym c.take.ensures.items) (rising_without c.args.name.0 c.self.inside.entries.items kept.rising);
+      few = omega (arith, c.take.ensures.few, kept.few);
+      counted = kept.counted;
       room = omega (arith, c.take.ensures.capacity, kept.room);
       room_over = kept.room_over;
     }

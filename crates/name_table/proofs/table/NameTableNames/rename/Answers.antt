@@ -13,8 +13,11 @@ pub invariant_of-self : goal.invariant_of-self
 invariant_of-self c =
     let es = c.self.inside.entries.items in
     let kept = c.self.invariant in
+    let len : length c.replace.new.entries.items ≡ length es = ap length c.replace.ensures.items ∙ length-map es (entry_replaced c.args.old.number.0 c.args.new) in
     record {
       rising = subst IsRising (sym c.replace.ensures.items) (rising_replaced c.args.old.number.0 c.args.new es kept.rising);
+      few = omega (arith, len, kept.few);
+      counted = kept.counted;
       room = omega (arith, c.replace.ensures.capacity, kept.room);
       room_over = kept.room_over;
     }

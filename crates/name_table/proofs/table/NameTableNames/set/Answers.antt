@@ -13,8 +13,11 @@ invariant_of-self c =
     let x : Entry = record { name = c.args.name; held = c.args.held } in
     let es = c.self.inside.entries.items in
     let kept = c.self.invariant in
+    let room : count_of (view_of c.self.inside) < c.self.inside.limit + 1 = subst (λ (t : Table). count_of t < t.limit + 1) (sym c.self.view_is) c.requires.room in
     record {
       rising = subst IsRising (sym c.put.ensures.items) (rising_entered x es kept.rising);
+      few = omega (arith, c.put.ensures.few, room);
+      counted = kept.counted;
       room = omega (arith, c.put.ensures.capacity, kept.room);
       room_over = kept.room_over;
     }

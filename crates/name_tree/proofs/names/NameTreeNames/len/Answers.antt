@@ -26,3 +26,6 @@ returns-clause-names c w st =
     let is = ap (λ (names : List Named). length names) inner.names in
     let many = length-map (listed c.self.inside.names.tree) shown_entry in
     omega (arith, is, many, length_listed c.self.inside.names.tree, c.self.invariant.all, c.len.ensures)
+
+pub returns-clause-bound : goal.returns-clause-bound
+returns-clause-bound c = omega (arith, c.self.invariant.all, c.self.invariant.counted, c.len.ensures)
