@@ -1,5 +1,5 @@
 //! The steps of rounds on a loop.
-ghost use Rattle.std.specs.Prelude.{None};
+ghost use Rattle.promise_commands.specs.Telling.{untold};
 
 use kj_base::{Ending, Name, NoMemory, NodeId, Outcome, StepId};
 use promise_commands::{Action, Command, Commands, Steps};
@@ -71,7 +71,7 @@ fn again() -> Action {
 }
 
 impl Steps for RoundSteps {
-    ghost told = { λ _. None };
+    ghost told = { λ _. untold };
 
     // No run takes memory.
     ghost lacks = { λ _. 0 };

@@ -3,6 +3,7 @@ use Rattle.std.proofs.Common.{◌≡◌, ◌⊎◌, inl, inr, ◌∙◌, ◌<◌
 use Rattle.std.proofs.lemmas.List.{append_assoc}
 use Rattle.kj_base.specs.Counts.{HasLacked}
 use Rattle.kj_base.specs.Record.{Item}
+use Rattle.promise_commands.specs.Telling.{Telling}
 use Rattle.kj_model.specs.World.{State, Setting, Asked, Ended}
 use Rattle.kj_model.specs.Apply.{Refused}
 use Rattle.kj_model.specs.Calls.{Turned, Fired, Idle, NoMemory, Stopped, close}
@@ -52,11 +53,11 @@ none_missing None h = refl
 none_missing (Some step) h = absurd (omega (arith, h))
 
 -- a call whose items were printed, by steps that never lack memory
-pub record Printed {R : Type 0} (bodies : List Body) (New : State → Type 0) (told : Option (List Item)) (text : List ℕ) (l : Logged) (r : State × R) (reply : R) : Type 0 where
+pub record Printed {R : Type 0} (bodies : List Body) (New : State → Type 0) (told : Telling) (text : List ℕ) (l : Logged) (r : State × R) (reply : R) : Type 0 where
   pub reply_is : r.1 ≡ reply
   pub shows : Shows bodies New told text (logged l r.0 [])
 
-pub call_printed : {R : Type 0} (bodies : List Body) (Old New : State → Type 0) (rule : Rule) (f : Setting → State → State × R) (reply : R) (a b c : Option (List Item)) (old new : List ℕ) (l : Logged)
+pub call_printed : {R : Type 0} (bodies : List Body) (Old New : State → Type 0) (rule : Rule) (f : Setting → State → State × R) (reply : R) (a b c : Telling) (old new : List ℕ) (l : Logged)
     → CallIs Old New rule f (λ setting s. (s, reply)) a b 0 0 → Prints b c old new → Shows bodies Old a old l
     → Printed bodies New c new l (f (setting_of rule (scripted bodies)) l.state) reply
 call_printed {R} bodies Old New rule f reply a b c old new l call prints shows =
@@ -76,7 +77,7 @@ call_printed {R} bodies Old New rule f reply a b c old new l call prints shows =
     }
 
 -- one line more
-pub line_printed : (bodies : List Body) (Stands : State → Type 0) (told : Option (List Item)) (old new : List ℕ) (l : Logged) (s : State) (line : LogLine)
+pub line_printed : (bodies : List Body) (Stands : State → Type 0) (told : Telling) (old new : List ℕ) (l : Logged) (s : State) (line : LogLine)
     → new ≡ old ++ line_text line ++ 10 ∷ [] → Shows bodies Stands told old (logged l s []) → Shows bodies Stands told new (logged l s (line ∷ []))
 line_printed bodies Stands told old new l s line more shows =
     let log : List LogLine = l.log ++ told_since l.state s in
@@ -91,12 +92,12 @@ line_printed bodies Stands told old new l s line more shows =
     }
 
 -- nothing is taken after a call
-pub taken_after : (bodies : List Body) (Stands : State → Type 0) (told : Option (List Item)) (text : List ℕ) (l : Logged) → ((s : State) → Stands s → HasNoneListed s.world) → Shows bodies Stands told text l → Shows bodies Stands told text (all_taken l)
+pub taken_after : (bodies : List Body) (Stands : State → Type 0) (told : Telling) (text : List ℕ) (l : Logged) → ((s : State) → Stands s → HasNoneListed s.world) → Shows bodies Stands told text l → Shows bodies Stands told text (all_taken l)
 taken_after bodies Stands told text l none shows =
     subst (λ (m : Logged). Shows bodies Stands told text m) (sym (taken_none l (none l.state shows.stands))) shows
 
 -- a turn that is not told as idle
-pub turn_shown : (bodies : List Body) (Stands : State → Type 0) (told : Option (List Item)) (text : List ℕ) (l : Logged) (s : State) (turned : Turned) → ((s : State) → Stands s → HasNoneListed s.world)
+pub turn_shown : (bodies : List Body) (Stands : State → Type 0) (told : Telling) (text : List ℕ) (l : Logged) (s : State) (turned : Turned) → ((s : State) → Stands s → HasNoneListed s.world)
     → Shows bodies Stands told text (logged l s []) → Shows bodies Stands told text (turned_line [] s turned l)
 turn_shown bodies Stands told text l s Fired none shows = taken_after bodies Stands told text (logged l s []) none shows
 turn_shown bodies Stands told text l s Idle none shows = shows
@@ -104,14 +105,14 @@ turn_shown bodies Stands told text l s NoMemory none shows = taken_after bodies 
 turn_shown bodies Stands told text l s Stopped none shows = taken_after bodies Stands told text (logged l s []) none shows
 
 -- a command that was not refused
-pub command_done : (bodies : List Body) (New : State → Type 0) (told : Option (List Item)) (text : List ℕ) (l : Logged) (r : State × Option Refused) (number : ℕ) → ((s : State) → New s → HasNoneListed s.world)
+pub command_done : (bodies : List Body) (New : State → Type 0) (told : Telling) (text : List ℕ) (l : Logged) (r : State × Option Refused) (number : ℕ) → ((s : State) → New s → HasNoneListed s.world)
     → Printed bodies New told text l r None → Shows bodies New told text (applied_line number r l)
 command_done bodies New told text l r number none p =
     subst (λ (refused : Option Refused). Shows bodies New told text (all_taken (logged l r.0 (refused_line number refused)))) (sym p.reply_is)
     (taken_after bodies New told text (logged l r.0 []) none p.shows)
 
 -- a command that was refused, with its line
-pub command_refused : (bodies : List Body) (New : State → Type 0) (told : Option (List Item)) (old new : List ℕ) (l : Logged) (r : State × Option Refused) (number : ℕ) (refused : Refused) → ((s : State) → New s → HasNoneListed s.world)
+pub command_refused : (bodies : List Body) (New : State → Type 0) (told : Telling) (old new : List ℕ) (l : Logged) (r : State × Option Refused) (number : ℕ) (refused : Refused) → ((s : State) → New s → HasNoneListed s.world)
     → new ≡ old ++ line_text (RefusedAt number refused) ++ 10 ∷ [] → Printed bodies New told old l r (Some refused) → Shows bodies New told new (applied_line number r l)
 command_refused bodies New told old new l r number refused none more p =
     subst (λ (o : Option Refused). Shows bodies New told new (all_taken (logged l r.0 (refused_line number o)))) (sym p.reply_is)
@@ -119,7 +120,7 @@ command_refused bodies New told old new l r number refused none more p =
     (line_printed bodies New told old new l r.0 (RefusedAt number refused) more p.shows))
 
 -- the closing ends the log
-pub closing_printed : (bodies : List Body) (Old : State → Type 0) (a b c : Option (List Item)) (old new : List ℕ) (l : Logged) → Closes Old a b → Prints b c old new → Shows bodies Old a old l → new ≡ log_text (log_closed l)
+pub closing_printed : (bodies : List Body) (Old : State → Type 0) (a b c : Telling) (old new : List ℕ) (l : Logged) → Closes Old a b → Prints b c old new → Shows bodies Old a old l → new ≡ log_text (log_closed l)
 closing_printed bodies Old a b c old new l closes prints shows =
     let p = prints bodies l.state.past closes.items a shows.follows closes.told in
     grown l (close l.state) closes.items old new (closes.closed l.state shows.stands) shows.printed p.text
@@ -130,7 +131,7 @@ on_ok (Ok a) P Q h f = f h
 on_ok (Err e) P Q h f = h
 
 -- a turn that a line tells of
-pub turn_told : (bodies : List Body) (Stands : State → Type 0) (told : Option (List Item)) (text : List ℕ) (l : Logged) (s : State) (turned : Turned) (case : TurnedCase) → turned ≡ turned_of case → (case ≡ IdleCase → ⊥)
+pub turn_told : (bodies : List Body) (Stands : State → Type 0) (told : Telling) (text : List ℕ) (l : Logged) (s : State) (turned : Turned) (case : TurnedCase) → turned ≡ turned_of case → (case ≡ IdleCase → ⊥)
     → Shows bodies Stands told text (turned_line [] s (turned_of case) l) → Shows bodies Stands told text (turned_line (WasIdle ∷ []) s turned l)
 turn_told bodies Stands told text l s turned FiredCase same other shows = subst (λ (t : Turned). Shows bodies Stands told text (turned_line (WasIdle ∷ []) s t l)) (sym same) shows
 turn_told bodies Stands told text l s turned IdleCase same other shows = absurd (other refl)
@@ -138,7 +139,7 @@ turn_told bodies Stands told text l s turned NoMemoryCase same other shows = sub
 turn_told bodies Stands told text l s turned StoppedCase same other shows = subst (λ (t : Turned). Shows bodies Stands told text (turned_line (WasIdle ∷ []) s t l)) (sym same) shows
 
 -- a turn that found the queue empty, with its line
-pub idle_told : (bodies : List Body) (Stands : State → Type 0) (told : Option (List Item)) (old new : List ℕ) (l : Logged) (s : State) (turned : Turned) → turned ≡ Idle → new ≡ old ++ line_text WasIdle ++ 10 ∷ []
+pub idle_told : (bodies : List Body) (Stands : State → Type 0) (told : Telling) (old new : List ℕ) (l : Logged) (s : State) (turned : Turned) → turned ≡ Idle → new ≡ old ++ line_text WasIdle ++ 10 ∷ []
     → Shows bodies Stands told old (turned_line [] s Idle l) → Shows bodies Stands told new (turned_line (WasIdle ∷ []) s turned l)
 idle_told bodies Stands told old new l s turned same more shows =
     subst (λ (t : Turned). Shows bodies Stands told new (turned_line (WasIdle ∷ []) s t l)) (sym same) (line_printed bodies Stands told old new l s WasIdle more shows)

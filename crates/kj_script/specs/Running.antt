@@ -3,6 +3,7 @@ use Rattle.std.specs.Prelude.{◌≡◌, ◌≤◌, ◌%◌, ℕ, List, Option, 
 use Rattle.kj_base.specs.declared.limits.TheConstants.{MAX_SLOTS}
 use Rattle.kj_base.specs.declared.numbers.Limits.{Limits}
 use Rattle.kj_base.specs.Record.{Item}
+use Rattle.promise_commands.specs.Telling.{Telling}
 use Rattle.kj_model.specs.World.{State}
 use Rattle.kj_model.specs.Log.{Body, Logged}
 use Rattle.kj_model.specs.Text.{log_text}
@@ -15,7 +16,7 @@ HaveLimits None = Unit {0}
 HaveLimits (Some limits) = (limits.slots ≤ MAX_SLOTS) × (limits.slots % 8 ≡ 0)
 
 -- the loop stands at the end of this log, the steps follow its record, and its lines are this text
-pub record Shows (bodies : List Body) (Stands : State → Type 0) (told : Option (List Item)) (text : List ℕ) (l : Logged) : Type 0 where
+pub record Shows (bodies : List Body) (Stands : State → Type 0) (told : Telling) (text : List ℕ) (l : Logged) : Type 0 where
   pub stands : Stands l.state
   pub follows : Follows bodies l.state.past told
   pub printed : text ≡ log_text l.log

@@ -7,9 +7,13 @@ pub record Telling : Type 0 where
   pub items : Option (List Item)
   pub least : ℕ
 
+-- steps that count nothing
+abbrev pub telling : Option (List Item) → Telling
+telling items = record { items = items; least = 0 }
+
 -- steps that tell nothing
 abbrev pub untold : Telling
-untold = record { items = None; least = 0 }
+untold = telling None
 
 -- these items came at the end, and they are what may have raised the number
 pub record Hears (before : Telling) (items : List Item) (after : Telling) : Type 0 where

@@ -10,7 +10,8 @@ use kj_base::{NoMemory, NodeId, Outcome, StepId};
 
 /// The host's side of a loop: it gives the action of each run, and is told each free.
 pub trait Steps {
-    /// Its runs, with the actions that it gave, and the frees that it was told, in order; or nothing.
+    /// Its runs, with the actions that it gave, and the frees that it was told, in order, where it keeps
+    /// them all; and how many of them it was told at least.
     ghost told: { Self → Telling };
 
     /// How often a run found no memory.

@@ -8,6 +8,7 @@ use Rattle.kj_base.specs.declared.outcomes.Outcome.{Outcome}
 use Rattle.kj_model.specs.Log.{Body, scripted, passing, at_or_last, bodies_of, runs_of, Told as ToldLine}
 use Rattle.kj_model.specs.Text.{log_text}
 use Rattle.promise_commands.specs.Answers.{Answer, Agrees}
+use Rattle.promise_commands.specs.Telling.{telling}
 use Rattle.promise_steps.specs.Order.{IsLeft}
 use Rattle.promise_steps.specs.Following.{coming, since, Printed, Prints}
 
@@ -92,22 +93,22 @@ since_same (x ∷ a) (y ∷ b) xs ys same =
 -- a printing of all that was told since the last one
 pub prints : (left now : List Body) (items : List Item) (old new : List ℕ)
     → Agrees (scripted left) [] items → IsLeft now left items → new ≡ old ++ log_text (map ToldLine items)
-    → Prints (Some (since left items)) (Some (since now [])) old new
+    → Prints (telling (Some (since left items))) (telling (Some (since now []))) old new
 prints left now items old new agrees is grown bodies past more last follows told =
-    subst (λ (xs : List Item). Printed bodies past xs (Some (since now [])) old new) same.1 (record {
+    subst (λ (xs : List Item). Printed bodies past xs (telling (Some (since now []))) old new) same.1 (record {
       agrees = subst (λ (xs : List Item). Agrees (scripted bodies) xs items) (append-nil past) (agrees_after left bodies past [] items before agrees);
       follows = record { left = now; told_is = refl; is_left = left_twice now left bodies past items is before };
       text = grown;
     })
   where
-    whole : Some (since follows.left []) ≡ Some told.0
-    whole = sym follows.told_is ∙ told.1
+    whole : Some (since follows.left []) ≡ Some told.told.0
+    whole = sym follows.told_is ∙ told.told.1
 
-    there : told.0 ≡ since follows.left []
+    there : told.told.0 ≡ since follows.left []
     there = cc (whole)
 
     both : since left items ≡ since follows.left more
-    both = told.2 ∙ ap (λ (xs : List Item). xs ++ more) there ∙ append_assoc (map coming follows.left) (Free 0 ∷ []) more
+    both = told.told.2 ∙ ap (λ (xs : List Item). xs ++ more) there ∙ append_assoc (map coming follows.left) (Free 0 ∷ []) more
 
     same : (left ≡ follows.left) × (items ≡ more)
     same = since_same left follows.left items more both

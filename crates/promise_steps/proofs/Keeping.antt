@@ -1,9 +1,10 @@
 -- What holds of kept steps, one item after another.
-use Rattle.std.proofs.Common.{◌≡◌, ℕ, List, [], ◌∷◌, ◌++◌, map, Some, Bool, true, false, refl, sym, ap, ◌∙◌, subst, append_assoc, append-nil}
+use Rattle.std.proofs.Common.{◌≡◌, ℕ, List, [], ◌∷◌, ◌++◌, map, Some, Bool, true, false, refl, sym, ap, ◌∙◌, subst, append_assoc, append-nil, zero-le}
 use Rattle.std.specs.Prelude.{IsTrue}
 use Rattle.std.proofs.lemmas.Bool.{false≢true}
 use Rattle.kj_base.specs.Commands.{Action}
 use Rattle.kj_base.specs.Record.{Item, Run, Free, Tells}
+use Rattle.promise_commands.specs.Telling.{Hears, telling}
 use Rattle.kj_base.specs.declared.outcomes.Outcome.{Outcome}
 use Rattle.kj_model.specs.Log.{Body, scripted, Told as ToldLine}
 use Rattle.kj_model.specs.Text.{log_text}
@@ -23,10 +24,13 @@ told_grows false true left old new item grown = absurd (false≢true (grown refl
 told_grows true true left old new item grown =
     (since left old, refl, ap (since left) (grown refl).1 ∙ sym (append_assoc (map coming left) (Free 0 ∷ old) (item ∷ [])))
 
-pub told_more : (old new : Kept) (item : Item) → begun_of new ≡ begun_of old → Grows old new item → Tells (told_by old) (item ∷ []) (told_by new)
-told_more old new item begun grown =
-    subst (λ (l : List Body). Tells (told_by old) (item ∷ []) (told_if new.whole (since l (items_of new)))) (sym begun)
-    (told_grows old.whole new.whole (begun_of old) (items_of old) (items_of new) item grown)
+pub told_more : (old new : Kept) (item : Item) → begun_of new ≡ begun_of old → Grows old new item → Hears (told_by old) (item ∷ []) (told_by new)
+told_more old new item begun grown = record {
+  told =
+      subst (λ (l : List Body). Tells (told_by old).items (item ∷ []) (told_if new.whole (since l (items_of new)))) (sym begun)
+      (told_grows old.whole new.whole (begun_of old) (items_of old) (items_of new) item grown);
+  least = zero-le 1;
+}
 
 pub kept_run : (old new : Kept) (n step : ℕ) (input : Outcome) (action : Action) → IsKept old → bodies_in new ≡ bodies_in old → InOrder (bodies_in old) new.order.items
     → scripted (left_of (bodies_in old) old.order.items) [] step ≡ Some action
@@ -69,9 +73,9 @@ kept_freed old new n kept script order begun grown = record {
 
 pub drained : (whole : Bool) (left now after : List Body) (items rest : List Item) (old new : List ℕ) → whole ≡ true → after ≡ now → rest ≡ []
     → Agrees (scripted left) [] items → IsLeft now left items → new ≡ old ++ log_text (map ToldLine items)
-    → Prints (told_if whole (since left items)) (told_if whole (since after rest)) old new
+    → Prints (telling (told_if whole (since left items))) (telling (told_if whole (since after rest))) old new
 drained false left now after items rest old new whole begun none agrees is grown = absurd (false≢true whole)
 drained true left now after items rest old new whole begun none agrees is grown =
-    subst (λ (l : List Body). Prints (Some (since left items)) (Some (since l rest)) old new) (sym begun)
-    (subst (λ (xs : List Item). Prints (Some (since left items)) (Some (since now xs)) old new) (sym none)
+    subst (λ (l : List Body). Prints (telling (Some (since left items))) (telling (Some (since l rest))) old new) (sym begun)
+    (subst (λ (xs : List Item). Prints (telling (Some (since left items))) (telling (Some (since now xs))) old new) (sym none)
     (prints left now items old new agrees is grown))

@@ -2,6 +2,7 @@
 use Rattle.std.specs.Prelude.{◌≡◌, List, [], ◌∷◌, ◌++◌, IsTrue, Option, None, Some, Bool, true, false, map}
 use Rattle.kj_base.specs.Commands.{Action}
 use Rattle.kj_base.specs.Record.{Item}
+use Rattle.promise_commands.specs.Telling.{Telling, telling}
 use Rattle.kj_model.specs.Log.{Body, scripted}
 use Rattle.promise_commands.specs.Answers.{Agrees}
 use Rattle.promise_commands.specs.Script.{Body as BodyCase}
@@ -28,13 +29,16 @@ told_if true items = Some items
 told_if false items = None
 
 -- what steps tell
-abbrev pub told_by : Kept → Option (List Item)
-told_by kept = told_if kept.whole (since (begun_of kept) (items_of kept))
+abbrev pub told_by : Kept → Telling
+told_by kept = telling (told_if kept.whole (since (begun_of kept) (items_of kept)))
 
 -- what was told is still told, and this action is the given one; or nothing is told any more
-abbrev pub IsRead : Option (List Item) → Option (List Item) → Action → Action → Type 0
-IsRead before None given action = Unit {0}
-IsRead before (Some after) given action = (before ≡ Some after) × (action ≡ given)
+abbrev pub IsReadFrom : Option (List Item) → Option (List Item) → Action → Action → Type 0
+IsReadFrom before None given action = Unit {0}
+IsReadFrom before (Some after) given action = (before ≡ Some after) × (action ≡ given)
+
+abbrev pub IsRead : Telling → Telling → Action → Action → Type 0
+IsRead before after given action = IsReadFrom before.items after.items given action
 
 -- where all is kept now, all was kept before, and one item came
 abbrev pub Grows : Kept → Kept → Item → Type 0

@@ -1,6 +1,7 @@
 //! What the steps of a script keep.
 ghost use Rattle.std.specs.Prelude.{◌≡◌, [], ◌∷◌, ◌++◌, List, None, Some, map, IfOk, IsOk, OnOk, IsTrue};
-ghost use Rattle.kj_base.specs.Record.{Tells, Run, Free};
+ghost use Rattle.kj_base.specs.Record.{Run, Free};
+ghost use Rattle.promise_commands.specs.Telling.{Hears};
 ghost use Rattle.kj_model.specs.Log.{passing as passing_action, Told as ToldLine};
 ghost use Rattle.kj_model.specs.Text.{log_text};
 ghost use Rattle.promise_commands.specs.Commands.{action_of};
@@ -76,7 +77,7 @@ fn keep(kept: &mut Kept, item: Told)
 fn silence(kept: &mut Kept)
     requires { IsKept kept.old }
     ensures kept { IsKept kept.new }
-    ensures silent { told_by kept.new ≡ None }
+    ensures silent { (told_by kept.new).items ≡ None }
 {
     kept.whole = false;
 }
@@ -86,7 +87,7 @@ fn tell_run(kept: &mut Kept, node: NodeId, step: StepId, input: &Outcome) -> Opt
     requires { IsKept kept.old }
     ensures kept { IsKept kept.new }
     ensures script { kept.new.script ≡ kept.old.script }
-    ensures told { Tells (told_by kept.old)
+    ensures told { Hears (told_by kept.old)
         (Run node.0 step.0 input.now (given_of kept.old.script.now.bodies result) ∷ [])
         (told_by kept.new) }
 {
@@ -130,7 +131,7 @@ pub(crate) fn run(
 ) -> Result<Action, NoMemory>
     requires { IsKept kept.old }
     ensures kept { IsKept kept.new }
-    ensures told { IfOk result (λ action. Tells (told_by kept.old)
+    ensures told { IfOk result (λ action. Hears (told_by kept.old)
         (Run node.0 step.0 input.now (action_of action) ∷ []) (told_by kept.new)) }
     ensures ok { IsOk result }
 {
@@ -143,7 +144,7 @@ pub(crate) fn run(
 pub(crate) fn freed(kept: &mut Kept, node: NodeId)
     requires { IsKept kept.old }
     ensures kept { IsKept kept.new }
-    ensures told { Tells (told_by kept.old) (Free node.0 ∷ []) (told_by kept.new) }
+    ensures told { Hears (told_by kept.old) (Free node.0 ∷ []) (told_by kept.new) }
 {
     keep(kept, Told::Freed(node));
 }

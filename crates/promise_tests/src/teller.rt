@@ -1,5 +1,5 @@
 //! Steps for tests.
-ghost use Rattle.std.specs.Prelude.{None};
+ghost use Rattle.promise_commands.specs.Telling.{untold};
 
 use kj_base::{Ending, Exception, Kind, Name, NoMemory, NodeId, Outcome, StepId, Words};
 use promise_commands::{Action, Command, Commands, Steps};
@@ -78,7 +78,7 @@ fn ending_of(step: StepId) -> Ending {
 }
 
 impl Steps for Teller {
-    ghost told = { λ _. None };
+    ghost told = { λ _. untold };
 
     ghost lacks = { λ s. s.lacks };
 

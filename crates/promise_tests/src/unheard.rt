@@ -1,5 +1,5 @@
 //! Steps of which nothing is kept.
-ghost use Rattle.std.specs.Prelude.{None};
+ghost use Rattle.promise_commands.specs.Telling.{untold};
 
 use kj_base::{Ending, NoMemory, NodeId, Outcome, StepId};
 use promise_commands::{Action, Commands, Steps};
@@ -9,7 +9,7 @@ use promise_commands::{Action, Commands, Steps};
 pub struct Unheard;
 
 impl Steps for Unheard {
-    ghost told = { λ _. None };
+    ghost told = { λ _. untold };
 
     ghost lacks = { λ _. 0 };
 

@@ -1,7 +1,8 @@
 -- A run is kept with the body that it gave.
 use Rattle.std.proofs.Common.{List, [], ◌∷◌, ap, subst, sym}
 use Rattle.std.specs.Borrow.{Bor}
-use Rattle.kj_base.specs.Record.{Run, Tells}
+use Rattle.kj_base.specs.Record.{Run}
+use Rattle.promise_commands.specs.Telling.{Hears}
 use Rattle.kj_base.specs.declared.outcomes.Outcome.{Outcome}
 use Rattle.promise_commands.specs.Script.{Script}
 use Rattle.promise_steps.specs.declared.order.Entry.{Entry}
@@ -31,5 +32,5 @@ returns-clause-told c =
     let old = c.args.kept.now in
     let new = c.keep.new.kept in
     let action = given_of old.script.now.bodies c.take_next-which.result in
-    subst (λ (o : Outcome). Tells (told_by old) (Run n step o action ∷ []) (told_by new)) c.copy.ensures
+    subst (λ (o : Outcome). Hears (told_by old) (Run n step o action ∷ []) (told_by new)) c.copy.ensures
     (told_more old new (Run n step c.copy.result action) c.keep.ensures.begun c.keep.ensures.told)
