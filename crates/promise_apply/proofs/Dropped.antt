@@ -18,9 +18,9 @@ use Rattle.kj_model.specs.Apply.{Refused, Busy, Full, Stopped, apply, applied, r
 use Rattle.kj_ownership.proofs.Answers.{drop_hub_would_free, drop_would_free}
 use Rattle.promise_commands.specs.Refusals.{refused_of, refusal_of}
 use Rattle.promise_commands.specs.declared.refused.Refused.{Refused as RefusedCase}
+use Rattle.promise_names.specs.declared.names.Held.{Held as HeldCase}
 use Rattle.promise_names.specs.declared.names.Held.TheVariants.{Promise as PromiseCase, CellOf as CellCase, AskCell as AskCase, HubOf as HubCase, Group as GroupCase, Canceler as CancelerCase, RequestOf as RequestCase}
 use Rattle.kj_base.specs.declared.nodes.Link.{Link}
-use Rattle.kj_base.specs.declared.numbers.StepId.{StepId}
 use Rattle.promise_names.specs.Held.{SeesHeld, held_shown, members_of}
 use Rattle.promise_walks.specs.Walks.{Does}
 use Rattle.promise_walks.proofs.Composed.{hears_none}
@@ -170,35 +170,55 @@ pub sees_hub : (hub : Link) (o : Option Held) → SeesHeld (Some (HubCase hub)) 
 sees_hub hub None sees = absurd sees
 sees_hub hub (Some seen) sees = ap (λ (h : Held). Some h) sees.is
 
-pub sees_group : (error : Option StepId) (empty : Option Link) (o : Option Held) → SeesHeld (Some (GroupCase error empty)) o → IsHolder o
-sees_group error empty None sees = absurd sees
-sees_group error empty (Some seen) sees = subst (λ (h : Held). IsHolder (Some h)) (sym sees.is) tt
+-- a set or a canceler
+abbrev pub is_holder : Option HeldCase → Bool
+is_holder (Some (GroupCase error empty)) = true
+is_holder (Some CancelerCase) = true
+is_holder other = false
 
-pub sees_canceler : (o : Option Held) → SeesHeld (Some CancelerCase) o → IsHolder o
-sees_canceler None sees = absurd sees
-sees_canceler (Some seen) sees = subst (λ (h : Held). IsHolder (Some h)) (sym sees.is) tt
+shown_holder : (members : List ℕ) (held : HeldCase) → is_holder (Some held) ≡ true → IsHolder (Some (held_shown members held))
+shown_holder members (GroupCase error empty) is = tt
+shown_holder members CancelerCase is = tt
+shown_holder members (PromiseCase root) is = absurd (false≢true is)
+shown_holder members (CellCase cell) is = absurd (false≢true is)
+shown_holder members (AskCase cell is_taken) is = absurd (false≢true is)
+shown_holder members (HubCase hub) is = absurd (false≢true is)
+shown_holder members (RequestCase request) is = absurd (false≢true is)
+
+pub sees_holder : (held : Option HeldCase) (o : Option Held) → SeesHeld held o → is_holder held ≡ true → IsHolder o
+sees_holder None o sees is = absurd (false≢true is)
+sees_holder (Some held) None sees is = absurd sees
+sees_holder (Some held) (Some seen) sees is = subst (λ (h : Held). IsHolder (Some h)) (sym sees.is) (shown_holder sees.members held is)
 
 -- a name that passes can be dropped
 pub droppable : (name : ℕ) (w : World) → refused_first (use_as IsDroppable name ∷ []) w ≡ None → has_role IsDroppable (held_at name w.names) ≡ true
 droppable name w first =
     first_role IsDroppable name [] w (passed_names (use_as IsDroppable name ∷ []) w (none_first (refused_if w.stopped Stopped) (names_refused (use_as IsDroppable name ∷ []) w) first).1)
 
-pub no_cell : (cell : Link) (o : Option Held) → SeesHeld (Some (CellCase cell)) o → has_role IsDroppable o ≡ true → ⊥
-no_cell cell None sees role = sees
-no_cell cell (Some seen) sees role = false≢true (ap (λ (h : Held). has_role IsDroppable (Some h)) (sym sees.is) ∙ role)
+-- what a Drop takes
+abbrev pub is_droppable : Option HeldCase → Bool
+is_droppable (Some (PromiseCase root)) = true
+is_droppable (Some (HubCase hub)) = true
+is_droppable (Some (GroupCase error empty)) = true
+is_droppable (Some CancelerCase) = true
+is_droppable other = false
 
-pub no_ask : (cell : Link) (is_taken : Bool) (o : Option Held) → SeesHeld (Some (AskCase cell is_taken)) o → has_role IsDroppable o ≡ true → ⊥
-no_ask cell is_taken None sees role = sees
-no_ask cell is_taken (Some seen) sees role = false≢true (ap (λ (h : Held). has_role IsDroppable (Some h)) (sym sees.is) ∙ role)
+shown_droppable : (members : List ℕ) (held : HeldCase) → is_droppable (Some held) ≡ has_role IsDroppable (Some (held_shown members held))
+shown_droppable members (PromiseCase root) = refl
+shown_droppable members (CellCase cell) = refl
+shown_droppable members (AskCase cell is_taken) = refl
+shown_droppable members (HubCase hub) = refl
+shown_droppable members (GroupCase error empty) = refl
+shown_droppable members CancelerCase = refl
+shown_droppable members (RequestCase request) = refl
 
-pub no_request : (node : Option Link) (o : Option Held) → SeesHeld (Some (RequestCase node)) o → has_role IsDroppable o ≡ true → ⊥
-no_request node None sees role = sees
-no_request node (Some seen) sees role = false≢true (ap (λ (h : Held). has_role IsDroppable (Some h)) (sym sees.is) ∙ role)
+-- what is seen of a name that can be dropped
+pub sees_droppable : (held : Option HeldCase) (o : Option Held) → SeesHeld held o → has_role IsDroppable o ≡ true → is_droppable held ≡ true
+sees_droppable None None sees role = role
+sees_droppable None (Some seen) sees role = absurd sees
+sees_droppable (Some held) None sees role = absurd sees
+sees_droppable (Some held) (Some seen) sees role = shown_droppable sees.members held ∙ ap (λ (h : Held). has_role IsDroppable (Some h)) (sym sees.is) ∙ role
 
-pub no_nothing : (o : Option Held) → SeesHeld None o → has_role IsDroppable o ≡ true → ⊥
-no_nothing None sees role = false≢true role
-no_nothing (Some seen) sees role = sees
-
--- so it does as well as anything
+-- a command that can't come does as well as anything
 pub never_does : (Old New : World → Type 0) (rule : Rule) (o : Option Refused) (c : Command) (told : Telling) → ((w : World) → Old w → ⊥) → DoesCommand Old New rule o c told told
 never_does Old New rule o c told never = record { items = []; told = hears_none told; applied = λ answer inside s old. absurd (never s.world old) }

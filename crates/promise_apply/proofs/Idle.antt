@@ -21,7 +21,8 @@ cleared_none guard group (Some (Group error (task ∷ tasks) empty)) s none = ab
 cleared_none guard group None s none = refl
 cleared_none guard group (Some _) s none = refl
 
-wraps_none : (o : Option Held) → members_of o ≡ [] → wraps_of o ≡ []
+-- the Wraps of what has none
+pub wraps_none : (o : Option Held) → members_of o ≡ [] → wraps_of o ≡ []
 wraps_none (Some (Canceler wraps)) none = none
 wraps_none None none = refl
 wraps_none (Some _) none = refl

@@ -1,4 +1,5 @@
-use Rattle.std.proofs.Common.{◌≡◌, ◌∙◌, [], ◌∷◌, Option, None, refl, sym, ap, subst}
+use Rattle.std.proofs.lemmas.Bool.{false≢true}
+use Rattle.std.proofs.Common.{◌≡◌, ◌∙◌, [], ◌∷◌, Option, None, Some, refl, sym, ap, subst}
 use Rattle.kj_base.specs.Commands.{Drop}
 use Rattle.kj_model.specs.World.{World, held_at}
 use Rattle.kj_model.specs.Uses.{Use, use_as, IsDroppable}
@@ -9,7 +10,7 @@ use Rattle.promise_names.specs.Held.{SeesHeld}
 use Rattle.promise_apply.specs.Building.{Both}
 use Rattle.promise_apply.specs.Applying.{refused_first}
 use Rattle.promise_apply.proofs.Told.{silent_does}
-use Rattle.promise_apply.proofs.Dropped.{droppable, err_does, never_does, no_ask, no_cell, no_nothing, no_request, refused_named, sees_canceler, sees_group, sees_hub, sees_promise}
+use Rattle.promise_apply.proofs.Dropped.{droppable, err_does, is_droppable, is_holder, never_does, refused_named, sees_droppable, sees_holder, sees_hub, sees_promise}
 use Rattle.promise_apply.proofs.dropping.apply_drop.Goals as goal
 
 pub returns-in_err-check_named-clause-applied : goal.returns-in_err-check_named-clause-applied
@@ -21,12 +22,66 @@ returns-in_err-check_named-clause-applied g c =
 
 pub drop_promise-requires-clause-held : goal.drop_promise-requires-clause-held
 drop_promise-requires-clause-held g c w old = record {
-  held_is = sees_promise c.in-Promise.root (held_at c.args.name.0 w.names) (subst (λ (o : Option HeldCase). SeesHeld o (held_at c.args.name.0 w.names)) c.in-Promise.is (c.get.ensures.held w old.1));
+  held_is = sees_promise c.in-Some-Promise.root (held_at c.args.name.0 w.names) (subst (λ (o : Option HeldCase). SeesHeld o (held_at c.args.name.0 w.names)) (c.in-Some-Promise.is ∙ ap (λ (h : HeldCase). Some h) c.in-Some-Promise.field-0-is) (c.get.ensures.held w old.1));
   passes = sym (c.in_ok-check_named.ensures.refusal w old ∙ ap (λ (u : Use). refused_first (u ∷ []) w) c.dropped.ensures);
 }
 
 pub drop_hub-requires-clause-held : goal.drop_hub-requires-clause-held
 drop_hub-requires-clause-held g c w old = record {
-  held_is = sees_hub c.in-HubOf.hub (held_at c.args.name.0 w.names) (subst (λ (o : Option HeldCase). SeesHeld o (held_at c.args.name.0 w.names)) c.in-HubOf.is (c.get.ensures.held w old.1));
+  held_is = sees_hub c.in-Some-HubOf.hub (held_at c.args.name.0 w.names) (subst (λ (o : Option HeldCase). SeesHeld o (held_at c.args.name.0 w.names)) (c.in-Some-HubOf.is ∙ ap (λ (h : HeldCase). Some h) c.in-Some-HubOf.field-0-is) (c.get.ensures.held w old.1));
   passes = sym (c.in_ok-check_named.ensures.refusal w old ∙ ap (λ (u : Use). refused_first (u ∷ []) w) c.dropped.ensures);
 }
+
+pub drop_holder-requires-clause-held : goal.drop_holder-requires-clause-held
+drop_holder-requires-clause-held g c w old = record {
+  holder = sees_holder c.get.result (held_at c.args.name.0 w.names) (c.get.ensures.held w old.1) (ap is_holder (c.in-Some-Group.is ∙ ap (λ (h : HeldCase). Some h) c.in-Some-Group.field-0-is));
+  passes = sym (c.in_ok-check_named.ensures.refusal w old ∙ ap (λ (u : Use). refused_first (u ∷ []) w) c.dropped.ensures);
+}
+
+pub returns-in-Some-Group-clause-applied : goal.returns-in-Some-Group-clause-applied
+returns-in-Some-Group-clause-applied g c =
+    silent_does (Both (g.N.Nodes.stands c.args.nodes.now) (g.M.Names.stands c.args.names.now)) (Both (g.N.Nodes.stands c.args.nodes.now) (g.M.Names.stands c.drop_holder.new.names)) g.N.Nodes.rule
+    (refusal_of c.drop_holder.result) (Drop c.args.name.0) _ c.drop_holder.ensures.applied
+
+pub drop_holder-requires-in-Some-Canceler-clause-held : goal.drop_holder-requires-in-Some-Canceler-clause-held
+drop_holder-requires-in-Some-Canceler-clause-held g c w old = record {
+  holder = sees_holder c.get.result (held_at c.args.name.0 w.names) (c.get.ensures.held w old.1) (ap is_holder (c.in-Some-Canceler.is ∙ ap (λ (h : HeldCase). Some h) c.in-Some-Canceler.field-0-is));
+  passes = sym (c.in_ok-check_named.ensures.refusal w old ∙ ap (λ (u : Use). refused_first (u ∷ []) w) c.dropped.ensures);
+}
+
+pub returns-in-Some-Canceler-clause-applied : goal.returns-in-Some-Canceler-clause-applied
+returns-in-Some-Canceler-clause-applied g c =
+    silent_does (Both (g.N.Nodes.stands c.args.nodes.now) (g.M.Names.stands c.args.names.now)) (Both (g.N.Nodes.stands c.args.nodes.now) (g.M.Names.stands c.drop_holder-in-Some-Canceler.new.names)) g.N.Nodes.rule
+    (refusal_of c.drop_holder-in-Some-Canceler.result) (Drop c.args.name.0) _ c.drop_holder-in-Some-Canceler.ensures.applied
+
+pub returns-in-Some-CellOf-clause-applied : goal.returns-in-Some-CellOf-clause-applied
+returns-in-Some-CellOf-clause-applied g c =
+    let name = c.args.name.0 in
+    let A : World → Type 0 = Both (g.N.Nodes.stands c.args.nodes.now) (g.M.Names.stands c.args.names.now) in
+    never_does A A g.N.Nodes.rule None (Drop name) _
+    (λ w old. false≢true (sym (ap is_droppable (c.in-Some-CellOf.is ∙ ap (λ (h : HeldCase). Some h) c.in-Some-CellOf.field-0-is))
+    ∙ sees_droppable c.get.result (held_at name w.names) (c.get.ensures.held w old.1) (droppable name w (sym (c.in_ok-check_named.ensures.refusal w old ∙ ap (λ (u : Use). refused_first (u ∷ []) w) c.dropped.ensures)))))
+
+pub returns-in-Some-AskCell-clause-applied : goal.returns-in-Some-AskCell-clause-applied
+returns-in-Some-AskCell-clause-applied g c =
+    let name = c.args.name.0 in
+    let A : World → Type 0 = Both (g.N.Nodes.stands c.args.nodes.now) (g.M.Names.stands c.args.names.now) in
+    never_does A A g.N.Nodes.rule None (Drop name) _
+    (λ w old. false≢true (sym (ap is_droppable (c.in-Some-AskCell.is ∙ ap (λ (h : HeldCase). Some h) c.in-Some-AskCell.field-0-is))
+    ∙ sees_droppable c.get.result (held_at name w.names) (c.get.ensures.held w old.1) (droppable name w (sym (c.in_ok-check_named.ensures.refusal w old ∙ ap (λ (u : Use). refused_first (u ∷ []) w) c.dropped.ensures)))))
+
+pub returns-in-Some-RequestOf-clause-applied : goal.returns-in-Some-RequestOf-clause-applied
+returns-in-Some-RequestOf-clause-applied g c =
+    let name = c.args.name.0 in
+    let A : World → Type 0 = Both (g.N.Nodes.stands c.args.nodes.now) (g.M.Names.stands c.args.names.now) in
+    never_does A A g.N.Nodes.rule None (Drop name) _
+    (λ w old. false≢true (sym (ap is_droppable (c.in-Some-RequestOf.is ∙ ap (λ (h : HeldCase). Some h) c.in-Some-RequestOf.field-0-is))
+    ∙ sees_droppable c.get.result (held_at name w.names) (c.get.ensures.held w old.1) (droppable name w (sym (c.in_ok-check_named.ensures.refusal w old ∙ ap (λ (u : Use). refused_first (u ∷ []) w) c.dropped.ensures)))))
+
+pub returns-in-None-clause-applied : goal.returns-in-None-clause-applied
+returns-in-None-clause-applied g c =
+    let name = c.args.name.0 in
+    let A : World → Type 0 = Both (g.N.Nodes.stands c.args.nodes.now) (g.M.Names.stands c.args.names.now) in
+    never_does A A g.N.Nodes.rule None (Drop name) _
+    (λ w old. false≢true (sym (ap is_droppable c.in-None.is)
+    ∙ sees_droppable c.get.result (held_at name w.names) (c.get.ensures.held w old.1) (droppable name w (sym (c.in_ok-check_named.ensures.refusal w old ∙ ap (λ (u : Use). refused_first (u ∷ []) w) c.dropped.ensures)))))
