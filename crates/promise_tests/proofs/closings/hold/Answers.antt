@@ -7,7 +7,7 @@ invariant_of-over-inside-2 c =
     let ready = c.over-inside.invariant in
     record {
       free = free_held _ _ _ _ c.args.name _ ready.free c.set.ensures.root c.requires.no_root;
-      few = omega (arith, c.set.ensures.few, c.set.ensures.limit, c.if-len-limit.false, c.len.ensures.count, c.limit.ensures);
+      few = omega (arith, c.set.ensures.few, c.set.ensures.limit, c.if-len-limit.false, c.len.ensures.awaited, c.limit.ensures, c.from-limit.ensures);
       frames = ready.frames;
       search = ready.search;
     }
