@@ -34,6 +34,10 @@ free_gone old new taken next from free has = record {
   apart = λ n m root is too. free.apart n m root (gone_before old new from n root has is).1 (gone_before old new from m root has too).1;
 }
 
+-- the same where what it holds now promises nothing
+pub free_held : (old new : ℕ → Option ℕ) (taken : ℕ → Bool) (next name : ℕ) (root : Option ℕ) → AreFree old taken next → HasRoot old new name root → root ≡ None → AreFree new taken next
+free_held old new taken next name root free has none = free_gone old new taken next name free (has.0 ∙ none, has.1)
+
 -- where a root is promised: by the key that has it now, or by another than both
 data Before (old : ℕ → Option ℕ) (from to r n root : ℕ) : Type 0 where
   Here : n ≡ to → root ≡ r → Before old from to r n root

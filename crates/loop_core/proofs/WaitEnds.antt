@@ -114,3 +114,8 @@ wrong_seen setting name n held (Some seen) s sees none = ap (λ (h : Held). wait
 pub none_seen : (setting : Setting) (name n : ℕ) (o : Option Held) (s : State) → SeesHeld None o → wait_held setting name n o s ≡ (s, NotThere (Unknown name))
 none_seen setting name n None s sees = refl
 none_seen setting name n (Some seen) s sees = absurd sees
+
+-- a name that isn't there holds nothing
+pub none_there : (o : Option Held) → SeesHeld None o → o ≡ None
+none_there None sees = refl
+none_there (Some seen) sees = absurd sees

@@ -1,5 +1,5 @@
 use Rattle.std.proofs.Common.{arith}
-use Rattle.promise_tests.proofs.Unrooted.{free_held}
+use Rattle.loop_core.proofs.Held.{free_held}
 use Rattle.promise_tests.proofs.closings.hold.Goals as goal
 
 pub invariant_of-over-inside-2 : goal.invariant_of-over-inside-2
