@@ -103,7 +103,7 @@ wrong_case setting name n members (AskCase cell taken) s none = refl
 wrong_case setting name n members (HubCase hub) s none = refl
 wrong_case setting name n members (GroupCase error empty) s none = refl
 wrong_case setting name n members CancelerCase s none = refl
-wrong_case setting name n members (RequestCase node) s none = refl
+wrong_case setting name n members (RequestCase request) s none = refl
 
 -- a name that has no promise is refused
 pub wrong_seen : (setting : Setting) (name n : ℕ) (held : HeldCase) (o : Option Held) (s : State) → SeesHeld (Some held) o → root_of (Some held) ≡ None → wait_held setting name n o s ≡ (s, NotThere (WrongKind name))

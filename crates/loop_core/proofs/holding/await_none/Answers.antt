@@ -1,4 +1,5 @@
-use Rattle.std.proofs.Common.{◌≡◌, ◌∙◌, None, refl, arith}
+use Rattle.std.proofs.Common.{◌≡◌, None, refl, sym, subst, arith}
+use Rattle.promise_walks.specs.Walks.{Both}
 use Rattle.loop_core.proofs.Held.{free_falls, free_gone}
 use Rattle.loop_core.proofs.holding.await_none.Goals as goal
 
@@ -13,4 +14,6 @@ invariant_of-ground g c =
     }
 
 pub returns-clause-stands : goal.returns-clause-stands
-returns-clause-stands g c w both = (c.set_awaited.ensures.stands w None both.0 refl, c.let_go.ensures.stands w both.1)
+returns-clause-stands g c w both =
+    let inner = subst (λ k. Both (g.N.Nodes.stands k.nodes) (g.M.Names.stands k.names) w) (sym c.ground.view_is) both in
+    (c.set_awaited.ensures.stands w None inner.0 refl, c.let_go.ensures.stands w inner.1)

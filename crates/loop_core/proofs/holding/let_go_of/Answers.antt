@@ -18,7 +18,7 @@ returns-in-Some-clause-does g c =
     let C : World → Type 0 = Both (g.N.Nodes.stands c.await_none.new.ground.nodes) (g.M.Names.stands c.await_none.new.ground.names) in
     does_silent A B C (freed a.root) (let_go_of (Some a)) (λ s. s) (with_awaited None) _ _ c.free.ensures.does
     (λ s stands mid. (c.await_none.ensures.stands (freed a.root s).world mid,
-    ap (λ (b : Bool). name_back b a s) (there_is a.name s.world.names _ (c.in-Some.ensures.held s.world (subst (λ names. g.M.Names.stands names s.world) (sym c.names.ensures) stands.1)))))
+    ap (λ (b : Bool). name_back b a s) (there_is a.name s.world.names (Some c.in-Some.field-0) (c.in-Some.ensures.held s.world (subst (λ names. g.M.Names.stands names s.world) (sym c.names.ensures) stands.1)))))
 
 pub returns-in-None-clause-does : goal.returns-in-None-clause-does
 returns-in-None-clause-does g c =
