@@ -4,7 +4,6 @@ use Rattle.std.proofs.lemmas.List.{append-nil}
 use Rattle.kj_base.specs.Record.{Item}
 use Rattle.promise_commands.specs.Telling.{Telling}
 use Rattle.kj_model.specs.Calls.{CallWait, Waited, NotThere, held_awaited, wait, wait_held, wait_more, wait_unless, with_awaited}
-use Rattle.kj_base.specs.declared.nodes.Link.{Link}
 use Rattle.kj_model.specs.Apply.{Unknown, WrongKind}
 use Rattle.kj_model.specs.Changes.{silent, unnamed}
 use Rattle.kj_model.specs.World.{World, State, Setting, Held, Promise, held_at}
@@ -91,10 +90,19 @@ wait_ends rule OldNodes OldNames NewNodes NewNames name n waited a b k l p = rec
       };
 }
 
+root_case : (root : ℕ) (members : List ℕ) (held : HeldCase) → root_of (Some held) ≡ Some root → ◌≡◌ {A = Option Held} (Some (held_shown members held)) (Some (Promise root))
+root_case root members (PromiseCase link) is = cc
+root_case root members (CellCase cell) is = absurd cc
+root_case root members (AskCase cell taken) is = absurd cc
+root_case root members (HubCase hub) is = absurd cc
+root_case root members (GroupCase error empty) is = absurd cc
+root_case root members CancelerCase is = absurd cc
+root_case root members (RequestCase request) is = absurd cc
+
 -- a name that has a promise
-pub promise_seen : (root : Link) (o : Option Held) → SeesHeld (Some (PromiseCase root)) o → o ≡ Some (Promise root.number.0)
-promise_seen root None sees = absurd sees
-promise_seen root (Some seen) sees = ap (λ (h : Held). Some h) sees.is
+pub root_seen : (root : ℕ) (held : HeldCase) (o : Option Held) → SeesHeld (Some held) o → root_of (Some held) ≡ Some root → o ≡ Some (Promise root)
+root_seen root held None sees is = absurd sees
+root_seen root held (Some seen) sees is = ap (λ (h : Held). Some h) sees.is ∙ root_case root sees.members held is
 
 wrong_case : (setting : Setting) (name n : ℕ) (members : List ℕ) (held : HeldCase) (s : State) → root_of (Some held) ≡ None → wait_held setting name n (Some (held_shown members held)) s ≡ (s, NotThere (WrongKind name))
 wrong_case setting name n members (PromiseCase root) s none = absurd cc

@@ -17,7 +17,7 @@ use Rattle.loop_core.proofs.Called.{Found}
 -- what is done without steps, with its answer
 pub found_does : (OldNodes OldNames NewNodes NewNames : World → Type 0) (rule : Rule) (f : State → State) (waited : Waited) (a b : Telling) (k l : ℕ)
     → Does (Both OldNodes OldNames) (Both NewNodes NewNames) f (λ s. s) a b → l ≡ k
-    → Found (StandsIn OldNodes OldNames) (StandsIn NewNodes NewNames) rule (λ setting s. (f s, waited)) (λ setting s. (s, waited)) a b k l
+    → Found {E = State × Waited} (StandsIn OldNodes OldNames) (StandsIn NewNodes NewNames) rule (λ setting s. (f s, waited)) (λ setting s. (s, waited)) a b k l
 found_does OldNodes OldNames NewNodes NewNames rule f waited a b k l d same = record {
   call = record {
     items = d.items;
@@ -37,7 +37,7 @@ found_does OldNodes OldNames NewNodes NewNames rule f waited a b k l d same = re
 -- the tree was evaluated
 pub found_valued : (OldNodes OldNames NewNodes NewNames : World → Type 0) (rule : Rule) (root : ℕ) (outcome : Outcome) (items : List Item) (a b : Telling) (k l : ℕ)
     → Hears a items b → l ≡ k → Goes (Both OldNodes OldNames) (Both NewNodes NewNames) rule (λ setting s. value setting root s) (gave outcome) items
-    → Found (StandsIn OldNodes OldNames) (StandsIn NewNodes NewNames) rule (valued_at root) (λ setting s. (awaited_gone s, Done outcome)) a b k l
+    → Found {E = State × Waited} (StandsIn OldNodes OldNames) (StandsIn NewNodes NewNames) rule (valued_at root) (λ setting s. (awaited_gone s, Done outcome)) a b k l
 found_valued OldNodes OldNames NewNodes NewNames rule root outcome items a b k l told same goes = record {
   call = record {
     items = items;
@@ -54,7 +54,7 @@ found_valued OldNodes OldNames NewNodes NewNames rule root outcome items a b k l
 -- a step found no memory
 pub call_lacks : (OldNodes OldNames NewNodes NewNames : World → Type 0) (rule : Rule) (root : ℕ) (items : List Item) (a b : Telling) (k l : ℕ)
     → Hears a items b → HasLacked true k l → Lacks (Both OldNodes OldNames) (Both NewNodes NewNames) rule (λ setting s. value setting root s) items
-    → CallIs (StandsIn OldNodes OldNames) (StandsIn NewNodes NewNames) rule (valued_at root) (λ setting s. (silent lost s, WaitNoMemory)) a b k l
+    → CallIs {E = State × Waited} (StandsIn OldNodes OldNames) (StandsIn NewNodes NewNames) rule (valued_at root) (λ setting s. (silent lost s, WaitNoMemory)) a b k l
 call_lacks OldNodes OldNames NewNodes NewNames rule root items a b k l told lacked lacks = record {
   items = items;
   missing = Some lacks.step;

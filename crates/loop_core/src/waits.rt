@@ -7,13 +7,15 @@ ghost use Rattle.loop_core.specs.Calls.{CallIs};
 ghost use Rattle.loop_core.specs.Loops.{StandsAt};
 ghost use Rattle.loop_core.specs.Waits.{MayHold, StandsIn, Waits, lacked_waiting, valued_at, waited_as};
 
-use crate::holding::{free_awaited, hold, let_go, lose};
+use crate::holding::{
+    awaited_over, free_over, held_over, hold_over, let_go_over, lose_over, promise_of,
+};
 use crate::waited::Waited;
 use crate::waiting::{WaitEnd, wait_turns};
 use kj_base::{Link, Name};
 use promise_commands::{Refused, Steps};
 use promise_eval::Evaluator;
-use promise_names::{Held, Names};
+use promise_names::Names;
 use promise_nodes::Nodes;
 use promise_turns::has_ended;
 
@@ -34,11 +36,11 @@ fn finish_tree<N: Nodes + Drop, M: Names + Drop, S: Steps>(
 {
     match over.evaluate(root, steps) {
         Ok(outcome) => {
-            free_awaited(&mut over.ground, steps);
+            free_over(over, steps);
             Waited::Done(outcome)
         }
         Err(_) => {
-            lose(&mut over.ground);
+            lose_over(over);
             Waited::NoMemory
         }
     }
@@ -58,7 +60,7 @@ fn finish<N: Nodes + Drop, M: Names + Drop, S: Steps>(
     ensures memory { HasLacked (lacked_waiting result) (S.lacks steps.old) (S.lacks steps.new) }
     ensures over { length (M.over over.new.names) ≤ 2 }
 {
-    match over.ground.names().awaited() {
+    match awaited_over(over) {
         Some(promise) => finish_tree(over, promise.root, steps),
         None => Waited::Idle,
     }
@@ -84,15 +86,15 @@ fn wait_held<N: Nodes + Drop, M: Names + Drop, S: Steps>(
     match wait_turns(over, turns, steps) {
         WaitEnd::Ready => finish(over, steps),
         WaitEnd::Idle => {
-            let_go(&mut over.ground, steps);
+            let_go_over(over, steps);
             Waited::Idle
         }
         WaitEnd::AllMade => {
-            let_go(&mut over.ground, steps);
+            let_go_over(over, steps);
             Waited::Turns
         }
         WaitEnd::NoMemory => {
-            lose(&mut over.ground);
+            lose_over(over);
             Waited::NoMemory
         }
     }
@@ -118,7 +120,7 @@ fn wait_for<N: Nodes + Drop, M: Names + Drop, S: Steps>(
         → HasLacked (lacked_waiting result) (S.lacks steps.old) (S.lacks steps.new) }
     ensures over { length (M.over over.new.names) ≤ 2 }
 {
-    hold(&mut over.ground, name, root);
+    hold_over(over, name, root);
     wait_held(over, turns, steps)
 }
 
@@ -143,9 +145,11 @@ pub(crate) fn wait_over<N: Nodes + Drop, M: Names + Drop, S: Steps>(
     if has_ended(over) {
         return Waited::Stopped;
     }
-    match over.ground.names().get(name) {
-        Some(Held::Promise(root)) => wait_for(over, name, root, turns, steps),
-        Some(_) => Waited::Refused(Refused::WrongKind(name)),
-        None => Waited::Refused(Refused::Unknown(name)),
+    let Some(held) = held_over(over, name) else {
+        return Waited::Refused(Refused::Unknown(name));
+    };
+    match promise_of(held) {
+        Some(root) => wait_for(over, name, root, turns, steps),
+        None => Waited::Refused(Refused::WrongKind(name)),
     }
 }
