@@ -137,21 +137,21 @@ pub own_fired : (rule : Rule) (OldNodes OldNames NewNodes NewNames : World → T
     → Found (Waits rule OldNodes OldNames) (Rested rule NewNodes NewNames) rule (λ setting. wait_more setting (suc n)) (λ setting. left_of_wait Ready setting) a b k l
 own_fired rule OldNodes OldNames NewNodes NewNames event n a b k l own t = record {
   call = record {
-  items = t.acts.items;
-  missing = None;
-  told = t.acts.told;
-  counts = λ s old. t.memory (told_answer None []) s old.rested.stands ((old.rested.takes, old.rested.rests), old.runs);
-  leads = λ answer s old agrees lacking.
-      let setting : Setting = setting_of rule answer in
-      let none = none_missing rule OldNodes OldNames NewNodes NewNames (FiredIn event) a b k l t t.acts.missing refl tt s old in
-      let r = turn_leads rule OldNodes OldNames NewNodes NewNames (FiredIn event) a b k l t answer s old agrees (subst (λ (o : Option ℕ). IsMissing answer (s.past ++ t.acts.items) o) (sym none) tt) in
-      record {
-        state = r.state;
-        stands = r.stands;
-        past_is = r.past_is;
-        ends = turned_is setting n event.number.0 true (r.state, Fired) s (t.event s.world old.rested.stands.0) own r.ends;
-      };
-};
+    items = t.acts.items;
+    missing = None;
+    told = t.acts.told;
+    counts = λ s old. t.memory (told_answer None []) s old.rested.stands ((old.rested.takes, old.rested.rests), old.runs);
+    leads = λ answer s old agrees lacking.
+        let setting : Setting = setting_of rule answer in
+        let none = none_missing rule OldNodes OldNames NewNodes NewNames (FiredIn event) a b k l t t.acts.missing refl tt s old in
+        let r = turn_leads rule OldNodes OldNames NewNodes NewNames (FiredIn event) a b k l t answer s old agrees (subst (λ (o : Option ℕ). IsMissing answer (s.past ++ t.acts.items) o) (sym none) tt) in
+        record {
+          state = r.state;
+          stands = r.stands;
+          past_is = r.past_is;
+          ends = turned_is setting n event.number.0 true (r.state, Fired) s (t.event s.world old.rested.stands.0) own r.ends;
+        };
+  };
   none = refl;
 }
 
@@ -172,23 +172,23 @@ pub none_fired : (rule : Rule) (OldNodes OldNames NewNodes NewNames : World → 
     → Found (Waits rule OldNodes OldNames) (Rested rule NewNodes NewNames) rule (λ setting. wait_more setting (suc n)) (λ setting. left_of_wait IdleEnd setting) a b k l
 none_fired rule OldNodes OldNames NewNodes NewNames n a b k l t = record {
   call = record {
-  items = t.acts.items;
-  missing = None;
-  told = t.acts.told;
-  counts = λ s old. t.memory (told_answer None []) s old.rested.stands ((old.rested.takes, old.rested.rests), old.runs);
-  leads = λ answer s old agrees lacking.
-      let setting : Setting = setting_of rule answer in
-      let none = none_missing rule OldNodes OldNames NewNodes NewNames IdleIn a b k l t t.acts.missing refl tt s old in
-      let r = turn_leads rule OldNodes OldNames NewNodes NewNames IdleIn a b k l t answer s old agrees (subst (λ (o : Option ℕ). IsMissing answer (s.past ++ t.acts.items) o) (sym none) tt) in
-      let head : head_of s.world.queue ≡ None = t.event s.world old.rested.stands.0 in
-      let here : r.state ≡ s = ap (λ (x : State × Turned). x.0) (r.ends ∙ idle_is setting s old.runs head) ∙ same_state s head old.rested.rests.owned.queue in
-      record {
-        state = r.state;
-        stands = r.stands;
-        past_is = r.past_is;
-        ends = ap (λ (u : State). (let_go u, WaitIdle)) here ∙ sym (ap (λ (o : Option ℕ). wait_turn setting (wait_more setting n) o s) head);
-      };
-};
+    items = t.acts.items;
+    missing = None;
+    told = t.acts.told;
+    counts = λ s old. t.memory (told_answer None []) s old.rested.stands ((old.rested.takes, old.rested.rests), old.runs);
+    leads = λ answer s old agrees lacking.
+        let setting : Setting = setting_of rule answer in
+        let none = none_missing rule OldNodes OldNames NewNodes NewNames IdleIn a b k l t t.acts.missing refl tt s old in
+        let r = turn_leads rule OldNodes OldNames NewNodes NewNames IdleIn a b k l t answer s old agrees (subst (λ (o : Option ℕ). IsMissing answer (s.past ++ t.acts.items) o) (sym none) tt) in
+        let head : head_of s.world.queue ≡ None = t.event s.world old.rested.stands.0 in
+        let here : r.state ≡ s = ap (λ (x : State × Turned). x.0) (r.ends ∙ idle_is setting s old.runs head) ∙ same_state s head old.rested.rests.owned.queue in
+        record {
+          state = r.state;
+          stands = r.stands;
+          past_is = r.past_is;
+          ends = ap (λ (u : State). (let_go u, WaitIdle)) here ∙ sym (ap (λ (o : Option ℕ). wait_turn setting (wait_more setting n) o s) head);
+        };
+  };
   none = refl;
 }
 

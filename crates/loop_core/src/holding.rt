@@ -25,11 +25,7 @@ const WAIT: Link = Link {
 };
 
 // The promise is taken out of its name, and the wait listens to its tree.
-fn hold<N: Nodes + Drop, M: Names + Drop>(
-    ground: &mut Ground<N, M>,
-    name: Name,
-    root: Link,
-)
+fn hold<N: Nodes + Drop, M: Names + Drop>(ground: &mut Ground<N, M>, name: Name, root: Link)
     requires named { M.roots ground.old.names name.0 ≡ Some root.number.0 }
     ensures stands { (w : World)
         → Both (N.stands ground.old.nodes) (M.stands ground.old.names) w
@@ -135,10 +131,7 @@ fn let_go_of<N: Nodes + Drop, M: Names + Drop, S: Steps>(
 }
 
 // Nobody listens any more, and the promise has its name again, or is freed where a step took that name.
-fn let_go<N: Nodes + Drop, M: Names + Drop, S: Steps>(
-    ground: &mut Ground<N, M>,
-    steps: &mut S,
-)
+fn let_go<N: Nodes + Drop, M: Names + Drop, S: Steps>(ground: &mut Ground<N, M>, steps: &mut S)
     ensures does { Does (Both (N.stands ground.old.nodes) (M.stands ground.old.names))
         (Both (N.stands ground.new.nodes) (M.stands ground.new.names)) let_go (λ s. s)
         (S.told steps.old) (S.told steps.new) }

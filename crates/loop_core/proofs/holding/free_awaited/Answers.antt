@@ -16,8 +16,10 @@ returns-in-Some-clause-does g c =
     let B : World → Type 0 = Both (g.N.Nodes.stands c.free.new.ground.nodes) (g.M.Names.stands c.free.new.ground.names) in
     let D : World → Type 0 = Both (g.N.Nodes.stands c.disarm.new.ground.nodes) (g.M.Names.stands c.disarm.new.ground.names) in
     does_silent A B D (freed root) awaited_gone (λ s. s) (λ w. disarmed_node 0 (with_awaited None w)) _ _ c.free.ensures.does
-    (λ s stands mid. (c.disarm.ensures.stands _ (c.await_none.ensures.stands (freed root s).world mid),
-    sym (ap (λ (o : Option Awaited). awaited_freed o s) (c.in-Some.ensures.awaited s.world (subst (λ names. g.M.Names.stands names s.world) (sym c.names.ensures) stands.1)))))
+    (λ s stands mid. (
+      c.disarm.ensures.stands _ (c.await_none.ensures.stands (freed root s).world mid),
+      sym (ap (λ (o : Option Awaited). awaited_freed o s) (c.in-Some.ensures.awaited s.world (subst (λ names. g.M.Names.stands names s.world) (sym c.names.ensures) stands.1))),
+    ))
 
 pub returns-in-None-clause-does : goal.returns-in-None-clause-does
 returns-in-None-clause-does g c =

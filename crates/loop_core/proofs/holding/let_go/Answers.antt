@@ -27,5 +27,7 @@ returns-in-None-clause-does g c =
     let A : World → Type 0 = Both (g.N.Nodes.stands c.args.ground.now.nodes) (g.M.Names.stands c.args.ground.now.names) in
     let B : World → Type 0 = Both (g.N.Nodes.stands c.disarm.new.ground.nodes) (g.M.Names.stands c.disarm.new.ground.names) in
     does_silent A A B (λ s. s) let_go (λ s. s) (disarmed_node 0) _ _ (does_none A _)
-    (λ s stands mid. (c.disarm.ensures.stands s.world stands,
-    sym (ap (λ (o : Option Awaited). let_go_of o (silent (disarmed_node 0) s)) (c.in-None.ensures.awaited (disarmed_node 0 s.world) (subst (λ names. g.M.Names.stands names (disarmed_node 0 s.world)) (sym c.names.ensures) (c.disarm.ensures.stands s.world stands).1)))))
+    (λ s stands mid. (
+      c.disarm.ensures.stands s.world stands,
+      sym (ap (λ (o : Option Awaited). let_go_of o (silent (disarmed_node 0) s)) (c.in-None.ensures.awaited (disarmed_node 0 s.world) (subst (λ names. g.M.Names.stands names (disarmed_node 0 s.world)) (sym c.names.ensures) (c.disarm.ensures.stands s.world stands).1))),
+    ))
