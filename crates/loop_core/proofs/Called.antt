@@ -1,5 +1,5 @@
 -- What a call did, part by part.
-use Rattle.std.proofs.Common.{◌≡◌, ◌∙◌, ℕ, List, [], ◌++◌, Option, None, Some, is_some, refl, sym, ap, subst, append_assoc}
+use Rattle.std.proofs.Common.{◌≡◌, ◌∙◌, ℕ, List, [], ◌++◌, Option, None, Some, Bool, false, is_some, refl, sym, ap, subst, append_assoc}
 use Rattle.std.proofs.lemmas.List.{append-nil}
 use Rattle.kj_base.specs.Counts.{HasLacked}
 use Rattle.kj_base.specs.Record.{Item}
@@ -11,7 +11,7 @@ use Rattle.promise_walks.proofs.Answering.{agrees_append}
 use Rattle.promise_walks.proofs.Composed.{hears_none, hears_then}
 use Rattle.promise_turns.specs.Acting.{IsMissing}
 use Rattle.promise_turns.proofs.Answering.{told_agrees, told_answer}
-use Rattle.loop_core.specs.Calls.{CallIs, ComesTo}
+use Rattle.loop_core.specs.Calls.{CallIs, CallLacks, ComesTo}
 
 -- the state to which a call in which no step lacked memory leads, with answers that always find it
 pub led : {E : Type 0} (A B : State → Type 0) (rule : Rule) (f g : Setting → State → E) (a b : Telling) (k l : ℕ)
@@ -75,6 +75,32 @@ call_in A B rule f g h a b k l p = record {
 pub record Found {E : Type 0} (A B : State → Type 0) (rule : Rule) (f g : Setting → State → E) (a b : Telling) (k l : ℕ) : Type 0 where
   pub call : CallIs A B rule f g a b k l
   pub none : call.missing ≡ None
+
+-- the same by what is told of it
+pub found_only : {E : Type 0} (lacks : Bool) (A B : State → Type 0) (rule : Rule) (f g : Setting → State → E) (a b : Telling) (k l : ℕ) → Found A B rule f g a b k l → CallLacks lacks A B rule f g a b k l
+found_only lacks A B rule f g a b k l p = record { call = p.call; only = λ e. p.none }
+
+-- from fewer states
+pub call_less : {E : Type 0} (A B C : State → Type 0) (rule : Rule) (f g : Setting → State → E) (a b : Telling) (k l : ℕ) → ((s : State) → C s → A s) → CallIs A B rule f g a b k l → CallIs C B rule f g a b k l
+call_less A B C rule f g a b k l less p = record {
+  items = p.items;
+  missing = p.missing;
+  told = p.told;
+  counts = λ s old. p.counts s (less s old);
+  leads = λ answer s old agrees lacking. p.leads answer s (less s old) agrees lacking;
+}
+
+-- the same from another definition, where they agree on each state at which the loop stood
+pub call_from : {E : Type 0} (A B : State → Type 0) (rule : Rule) (f g h : Setting → State → E) (a b : Telling) (k l : ℕ) → ((setting : Setting) (s : State) → A s → f setting s ≡ h setting s) → CallIs A B rule f g a b k l → CallIs A B rule h g a b k l
+call_from A B rule f g h a b k l same p = record {
+  items = p.items;
+  missing = p.missing;
+  told = p.told;
+  counts = p.counts;
+  leads = λ answer s old agrees lacking.
+      let r = p.leads answer s old agrees lacking in
+      record { state = r.state; stands = r.stands; past_is = r.past_is; ends = r.ends ∙ same (setting_of rule answer) s old };
+}
 
 -- nothing was done yet
 pub found_none : {E : Type 0} (A : State → Type 0) (rule : Rule) (f : Setting → State → E) (a : Telling) (k : ℕ) → Found A A rule f f a a k k

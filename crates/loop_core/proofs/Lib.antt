@@ -1,5 +1,7 @@
 pub mod Called
 pub mod Ending
 pub mod Turning
+pub mod Held
 pub mod WaitEnds
+pub mod WaitParts
 pub mod WaitTurns

@@ -134,22 +134,25 @@ other_fired rule OldNodes OldNames NewNodes NewNames event n a b k l apart t = r
 -- the event of the wait fired
 pub own_fired : (rule : Rule) (OldNodes OldNames NewNodes NewNames : World → Type 0) (event : Link) (n : ℕ) (a b : Telling) (k l : ℕ) → nat_eq event.number.0 0 ≡ true
     → TakenIs rule OldNodes OldNames NewNodes NewNames (FiredIn event) a b k l
-    → CallIs (Waits rule OldNodes OldNames) (Rested rule NewNodes NewNames) rule (λ setting. wait_more setting (suc n)) (λ setting. left_of_wait Ready setting) a b k l
+    → Found (Waits rule OldNodes OldNames) (Rested rule NewNodes NewNames) rule (λ setting. wait_more setting (suc n)) (λ setting. left_of_wait Ready setting) a b k l
 own_fired rule OldNodes OldNames NewNodes NewNames event n a b k l own t = record {
-  items = t.acts.items;
-  missing = None;
-  told = t.acts.told;
-  counts = λ s old. t.memory (told_answer None []) s old.rested.stands ((old.rested.takes, old.rested.rests), old.runs);
-  leads = λ answer s old agrees lacking.
-      let setting : Setting = setting_of rule answer in
-      let none = none_missing rule OldNodes OldNames NewNodes NewNames (FiredIn event) a b k l t t.acts.missing refl tt s old in
-      let r = turn_leads rule OldNodes OldNames NewNodes NewNames (FiredIn event) a b k l t answer s old agrees (subst (λ (o : Option ℕ). IsMissing answer (s.past ++ t.acts.items) o) (sym none) tt) in
-      record {
-        state = r.state;
-        stands = r.stands;
-        past_is = r.past_is;
-        ends = turned_is setting n event.number.0 true (r.state, Fired) s (t.event s.world old.rested.stands.0) own r.ends;
-      };
+  call = record {
+    items = t.acts.items;
+    missing = None;
+    told = t.acts.told;
+    counts = λ s old. t.memory (told_answer None []) s old.rested.stands ((old.rested.takes, old.rested.rests), old.runs);
+    leads = λ answer s old agrees lacking.
+        let setting : Setting = setting_of rule answer in
+        let none = none_missing rule OldNodes OldNames NewNodes NewNames (FiredIn event) a b k l t t.acts.missing refl tt s old in
+        let r = turn_leads rule OldNodes OldNames NewNodes NewNames (FiredIn event) a b k l t answer s old agrees (subst (λ (o : Option ℕ). IsMissing answer (s.past ++ t.acts.items) o) (sym none) tt) in
+        record {
+          state = r.state;
+          stands = r.stands;
+          past_is = r.past_is;
+          ends = turned_is setting n event.number.0 true (r.state, Fired) s (t.event s.world old.rested.stands.0) own r.ends;
+        };
+  };
+  none = refl;
 }
 
 -- an empty queue is rewound
@@ -166,24 +169,27 @@ same_state s none is = ap (λ (q : Events). silent (with_queue q) s) (rewound_is
 -- no event is armed
 pub none_fired : (rule : Rule) (OldNodes OldNames NewNodes NewNames : World → Type 0) (n : ℕ) (a b : Telling) (k l : ℕ)
     → TakenIs rule OldNodes OldNames NewNodes NewNames IdleIn a b k l
-    → CallIs (Waits rule OldNodes OldNames) (Rested rule NewNodes NewNames) rule (λ setting. wait_more setting (suc n)) (λ setting. left_of_wait IdleEnd setting) a b k l
+    → Found (Waits rule OldNodes OldNames) (Rested rule NewNodes NewNames) rule (λ setting. wait_more setting (suc n)) (λ setting. left_of_wait IdleEnd setting) a b k l
 none_fired rule OldNodes OldNames NewNodes NewNames n a b k l t = record {
-  items = t.acts.items;
-  missing = None;
-  told = t.acts.told;
-  counts = λ s old. t.memory (told_answer None []) s old.rested.stands ((old.rested.takes, old.rested.rests), old.runs);
-  leads = λ answer s old agrees lacking.
-      let setting : Setting = setting_of rule answer in
-      let none = none_missing rule OldNodes OldNames NewNodes NewNames IdleIn a b k l t t.acts.missing refl tt s old in
-      let r = turn_leads rule OldNodes OldNames NewNodes NewNames IdleIn a b k l t answer s old agrees (subst (λ (o : Option ℕ). IsMissing answer (s.past ++ t.acts.items) o) (sym none) tt) in
-      let head : head_of s.world.queue ≡ None = t.event s.world old.rested.stands.0 in
-      let here : r.state ≡ s = ap (λ (x : State × Turned). x.0) (r.ends ∙ idle_is setting s old.runs head) ∙ same_state s head old.rested.rests.owned.queue in
-      record {
-        state = r.state;
-        stands = r.stands;
-        past_is = r.past_is;
-        ends = ap (λ (u : State). (let_go u, WaitIdle)) here ∙ sym (ap (λ (o : Option ℕ). wait_turn setting (wait_more setting n) o s) head);
-      };
+  call = record {
+    items = t.acts.items;
+    missing = None;
+    told = t.acts.told;
+    counts = λ s old. t.memory (told_answer None []) s old.rested.stands ((old.rested.takes, old.rested.rests), old.runs);
+    leads = λ answer s old agrees lacking.
+        let setting : Setting = setting_of rule answer in
+        let none = none_missing rule OldNodes OldNames NewNodes NewNames IdleIn a b k l t t.acts.missing refl tt s old in
+        let r = turn_leads rule OldNodes OldNames NewNodes NewNames IdleIn a b k l t answer s old agrees (subst (λ (o : Option ℕ). IsMissing answer (s.past ++ t.acts.items) o) (sym none) tt) in
+        let head : head_of s.world.queue ≡ None = t.event s.world old.rested.stands.0 in
+        let here : r.state ≡ s = ap (λ (x : State × Turned). x.0) (r.ends ∙ idle_is setting s old.runs head) ∙ same_state s head old.rested.rests.owned.queue in
+        record {
+          state = r.state;
+          stands = r.stands;
+          past_is = r.past_is;
+          ends = ap (λ (u : State). (let_go u, WaitIdle)) here ∙ sym (ap (λ (o : Option ℕ). wait_turn setting (wait_more setting n) o s) head);
+        };
+  };
+  none = refl;
 }
 
 -- a step found no memory
@@ -225,14 +231,17 @@ last_lacks rule OldNodes OldNames MidNodes MidNames NewNodes NewNames f g taken 
     (t.memory (told_answer None []) r.state r.stands.rested.stands ((r.stands.rested.takes, r.stands.rested.rests), r.stands.runs))
 
 -- a state at which the next turn of a wait may begin, whether the loop runs or not
-pub call_rested : {E : Type 0} (A : State → Type 0) (rule : Rule) (Nodes Names : World → Type 0) (f g : Setting → State → E) (a b : Telling) (k l : ℕ)
-    → CallIs A (Waits rule Nodes Names) rule f g a b k l → CallIs A (Rested rule Nodes Names) rule f g a b k l
-call_rested A rule Nodes Names f g a b k l p = record {
-  items = p.items;
-  missing = p.missing;
-  told = p.told;
-  counts = p.counts;
-  leads = λ answer s old agrees lacking.
-      let r = p.leads answer s old agrees lacking in
-      record { state = r.state; stands = r.stands.rested; past_is = r.past_is; ends = r.ends };
+pub found_rested : {E : Type 0} (A : State → Type 0) (rule : Rule) (Nodes Names : World → Type 0) (f g : Setting → State → E) (a b : Telling) (k l : ℕ)
+    → Found A (Waits rule Nodes Names) rule f g a b k l → Found A (Rested rule Nodes Names) rule f g a b k l
+found_rested A rule Nodes Names f g a b k l p = record {
+  call = record {
+    items = p.call.items;
+    missing = p.call.missing;
+    told = p.call.told;
+    counts = p.call.counts;
+    leads = λ answer s old agrees lacking.
+        let r = p.call.leads answer s old agrees lacking in
+        record { state = r.state; stands = r.stands.rested; past_is = r.past_is; ends = r.ends };
+  };
+  none = p.none;
 }

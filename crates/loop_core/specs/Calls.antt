@@ -1,5 +1,5 @@
 -- The calls of a loop, against the definitions.
-use Rattle.std.specs.Prelude.{◌≡◌, ◌&&◌, ℕ, List, ◌++◌, Option, nat_lt, is_some}
+use Rattle.std.specs.Prelude.{◌≡◌, ◌&&◌, ℕ, List, ◌++◌, Option, None, Bool, false, nat_lt, is_some}
 use Rattle.kj_base.specs.Counts.{HasLacked}
 use Rattle.kj_base.specs.Record.{Item}
 use Rattle.promise_commands.specs.Telling.{Telling, Hears}
@@ -29,6 +29,11 @@ pub record CallIs {E : Type 0} (Old New : State → Type 0) (rule : Rule) (befor
   pub leads :
       (answer : Answer) (s : State) → Old s → Agrees answer s.past items → IsMissing answer (s.past ++ items) missing
       → ComesTo New (before (setting_of rule answer) s) (after (setting_of rule answer)) (s.past ++ items)
+
+-- the same, and a step found no memory only where this says so
+pub record CallLacks {E : Type 0} (lacks : Bool) (Old New : State → Type 0) (rule : Rule) (before after : Setting → State → E) (told_before told_after : Telling) (lacks_before lacks_after : ℕ) : Type 0 where
+  pub call : CallIs Old New rule before after told_before told_after lacks_before lacks_after
+  pub only : lacks ≡ false → call.missing ≡ None
 
 -- each number that was built was freed once in the whole record, and each live one once by these items
 pub record FreesEachOnce (s : State) (items : List Item) : Type 0 where

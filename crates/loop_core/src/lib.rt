@@ -3,9 +3,13 @@
 
 mod applying;
 mod closing;
+mod holding;
 mod over;
 mod running;
+mod waited;
 mod waiting;
+mod waits;
 
 pub use over::{Loop, LoopOver};
 pub use promise_turns::Turned;
+pub use waited::Waited;

@@ -3,7 +3,7 @@ ghost use Rattle.std.specs.Prelude.{◌≡◌, ◌≤◌, ◌+◌, ℕ, [], IfOk
 ghost use Rattle.kj_base.specs.Counts.{HasLacked};
 ghost use Rattle.kj_base.specs.Queue.{no_events};
 ghost use Rattle.kj_model.specs.Apply.{apply};
-ghost use Rattle.kj_model.specs.Calls.{run, turn};
+ghost use Rattle.kj_model.specs.Calls.{run, turn, wait};
 ghost use Rattle.kj_model.specs.World.{State, new_state};
 ghost use Rattle.promise_commands.specs.Commands.{command_of};
 ghost use Rattle.promise_commands.specs.Refusals.{refusal_of};
@@ -12,11 +12,14 @@ ghost use Rattle.loop_core.specs.Calls.{CallIs, Closes};
 ghost use Rattle.promise_graph.specs.Standing.{StandsFor};
 ghost use Rattle.name_table.specs.Table.{Stands as NamesStand};
 ghost use Rattle.loop_core.specs.Loops.{StandsAt, TakesNoMore};
+ghost use Rattle.loop_core.specs.Waits.{lacked_waiting, waited_as};
 
 use crate::applying::apply_over;
 use crate::closing::close_over;
 use crate::running::{run_over, turn_over};
-use kj_base::{Limits, MAX_SLOTS, NoMemory, Queue, Store};
+use crate::waited::Waited;
+use crate::waits::wait_over;
+use kj_base::{Limits, MAX_SLOTS, Name, NoMemory, Queue, Store};
 use name_tree::NameTree;
 use promise_commands::{Command, Refused, Steps};
 use promise_eval::{Evaluator, Ground};
@@ -86,6 +89,22 @@ impl<N: Nodes + Drop, M: Names + Drop> LoopOver<N, M> {
             → HasLacked (lacked_memory result) (S.lacks steps.old) (S.lacks steps.new) }
     {
         run_over(&mut self.over, turns, steps)
+    }
+
+    /// Turns until the promise of this name is ready, so many at most (kj/async.h, `Promise::wait`): the promise leaves
+    /// its name, the wait listens to its tree, and where that is ready it is evaluated and freed. A wait that ends
+    /// before gives the promise its name again, unless a step took that name: then the promise is freed.
+    pub fn wait<S: Steps>(&mut self, name: Name, turns: u32, steps: &mut S) -> Waited
+        ensures waits { CallIs
+            (StandsAt N.rule (N.stands self.old.nodes) (M.stands self.old.names))
+            (StandsAt N.rule (N.stands self.new.nodes) (M.stands self.new.names)) N.rule
+            (λ setting. wait setting name.0 turns) (λ setting. waited_as result)
+            (S.told steps.old) (S.told steps.new) (S.lacks steps.old) (S.lacks steps.new) }
+        ensures memory { (s : State)
+            → StandsAt N.rule (N.stands self.old.nodes) (M.stands self.old.names) s
+            → HasLacked (lacked_waiting result) (S.lacks steps.old) (S.lacks steps.new) }
+    {
+        wait_over(&mut self.over, name, turns, steps)
     }
 
     /// The loop goes (kj/async.h, the destructor of an `EventLoop`) with all that it holds, and no step runs: what is left

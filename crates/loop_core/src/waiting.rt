@@ -3,7 +3,7 @@ ghost use Rattle.std.specs.Prelude.{◌≡◌, []};
 ghost use Rattle.kj_base.specs.Counts.{HasLacked};
 ghost use Rattle.kj_model.specs.World.{State};
 ghost use Rattle.kj_model.specs.Calls.{wait_more};
-ghost use Rattle.loop_core.specs.Calls.{CallIs};
+ghost use Rattle.loop_core.specs.Calls.{CallLacks};
 ghost use Rattle.loop_core.specs.Waits.{Rested, Waits, lacked_at, left_of_wait};
 
 use promise_commands::Steps;
@@ -33,7 +33,7 @@ pub(crate) fn wait_turns<N: Nodes + Drop, M: Names + Drop, S: Steps>(
     steps: &mut S,
 ) -> WaitEnd
     requires none_over { M.over over.old.names ≡ [] }
-    ensures waits { CallIs
+    ensures waits { CallLacks (lacked_at result)
         (Waits N.rule (N.stands over.old.nodes) (M.stands over.old.names))
         (Rested N.rule (N.stands over.new.nodes) (M.stands over.new.names)) N.rule
         (λ setting. wait_more setting turns) (λ setting. left_of_wait result setting)

@@ -29,7 +29,7 @@ no_ask n (e ∷ es) all = no_ask_step n e e.held es refl all.0 (no_ask n es all.
 
 -- the names of a world are these
 renamed_stands : (t : Table) (w : World) (names : List Named) → names ≡ names_of t.entries → Stands t w → Stands t (record w { names = names })
-renamed_stands t w names is st = record { names = is; rising = st.rising; no_asks = st.no_asks; awaited = st.awaited; over = st.over; asks = st.asks; ended = st.ended; abandoned = st.abandoned; limit = st.limit; stopped = st.stopped }
+renamed_stands t w names is st = record { names = is; rising = st.rising; no_asks = st.no_asks; no_key = st.no_key; awaited = st.awaited; over = st.over; asks = st.asks; ended = st.ended; abandoned = st.abandoned; limit = st.limit; stopped = st.stopped }
 
 wrap_left : (n c : ℕ) (t : Table) (w : World) (o : Option HeldCase) → held_in c t.entries ≡ o → Stands t w → Stands t (without_wrap_in n c (shown_held o) w)
 wrap_left n c t w None is st = st

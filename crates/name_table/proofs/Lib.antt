@@ -6,3 +6,4 @@ pub mod Leaving
 pub mod Trees
 pub mod Calls
 pub mod Alone
+pub mod Awaited

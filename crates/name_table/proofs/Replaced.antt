@@ -40,13 +40,14 @@ names_replaced old new (e ∷ es) =
 pub replaced_is : (old : ℕ) (new : Link) (names : List Named) (es : List Entry) → names ≡ names_of es → map (named_renamed old new.number.0) names ≡ names_of (map (entry_replaced old new) es)
 replaced_is old new names es is = ap (map (named_renamed old new.number.0)) is ∙ sym (names_replaced old new es)
 
-above_replaced : (old : ℕ) (new : Link) (n : ℕ) (es : List Entry) → AllByRecursion (λ (later : Entry). n < later.name.0) es → AllByRecursion (λ (later : Entry). n < later.name.0) (map (entry_replaced old new) es)
-above_replaced old new n [] all = tt
-above_replaced old new n (e ∷ es) all = (all.0, above_replaced old new n es all.1)
+-- what holds of each name still does
+pub names_still : (old : ℕ) (new : Link) (P : ℕ → Type 0) (es : List Entry) → AllByRecursion (λ (e : Entry). P e.name.0) es → AllByRecursion (λ (e : Entry). P e.name.0) (map (entry_replaced old new) es)
+names_still old new P [] all = tt
+names_still old new P (e ∷ es) all = (all.0, names_still old new P es all.1)
 
 pub rising_replaced : (old : ℕ) (new : Link) (es : List Entry) → IsRising es → IsRising (map (entry_replaced old new) es)
 rising_replaced old new [] r = tt
-rising_replaced old new (e ∷ es) r = (above_replaced old new e.name.0 es r.0, rising_replaced old new es r.1)
+rising_replaced old new (e ∷ es) r = (names_still old new (λ (n : ℕ). e.name.0 < n) es r.0, rising_replaced old new es r.1)
 
 own_still : (old : ℕ) (new : Link) (held : HeldCase) → IsLoopsOwn held → IsLoopsOwn (held_replaced old new held)
 own_still old new (PromiseCase root) h = tt

@@ -4,6 +4,7 @@ use Rattle.std.specs.List.{AllByRecursion}
 use Rattle.kj_base.specs.declared.nodes.Link.{Link}
 use Rattle.kj_model.specs.World.{Named}
 use Rattle.promise_names.specs.Held.{held_shown}
+use Rattle.promise_names.specs.declared.names.Awaited.{Awaited}
 use Rattle.promise_names.specs.declared.names.Held.{Held}
 use Rattle.promise_names.specs.declared.names.Held.TheVariants.{Promise}
 use Rattle.name_table.specs.declared.entries.Entry.{Entry}
@@ -63,6 +64,11 @@ held_replaced old new other = other
 -- an entry, where a tree was replaced
 abbrev pub entry_replaced : ℕ → Link → Entry → Entry
 entry_replaced old new e = record { name = e.name; held = held_replaced old new e.held }
+
+-- the promise that is awaited, where a tree was replaced
+abbrev pub awaited_replaced : ℕ → Link → Option Awaited → Option Awaited
+awaited_replaced old new None = None
+awaited_replaced old new (Some a) = Some (record { name = a.name; root = link_if (a.root.number.0 == old) new a.root })
 
 -- what the definitions see of an entry: a set has no tasks, and a canceler no Wraps
 abbrev pub shown_entry : Entry → Named

@@ -1,6 +1,6 @@
 -- The laws of a keeper of names, for the table.
-use Rattle.std.proofs.Common.{◌≡◌, ℕ, ◌<◌, Bool, true, false, List, [], ◌∷◌, Option, None, Some, refl, sym, subst, ap, ◌∙◌, arith}
-use Rattle.std.specs.Prelude.{nat_eq}
+use Rattle.std.proofs.Common.{◌≡◌, ℕ, ◌+◌, ◌<◌, Bool, true, false, List, [], ◌∷◌, Option, None, Some, refl, sym, subst, ap, ◌∙◌, arith}
+use Rattle.std.specs.Prelude.{nat_eq, IsSome, is_some}
 use Rattle.std.specs.List.{AllByRecursion}
 use Rattle.std.proofs.lemmas.Bool.Decides.{nat_tests}
 use Rattle.kj_model.specs.World.{World, Named, Held as Seen, Promise as PromiseSeen, RequestOf as RequestSeen, held_at}
@@ -10,13 +10,13 @@ use Rattle.promise_names.specs.Once.{AreOnce, AreRising}
 use Rattle.promise_names.specs.declared.names.Held.{Held}
 use Rattle.promise_names.specs.declared.names.Held.TheVariants.{Promise, CellOf, AskCell, HubOf, Group, Canceler, RequestOf}
 use Rattle.name_table.specs.declared.entries.Entry.{Entry}
-use Rattle.promise_names.specs.Held.{held_shown, root_of, IsLoopsOwn, HasNoneListed, members_of}
+use Rattle.promise_names.specs.Held.{awaited_key, held_shown, root_of, IsLoopsOwn, HasNoneListed, members_of}
 use Rattle.name_table.specs.Entries.{IsRising, held_in, names_of}
-use Rattle.name_table.specs.Table.{Table, Stands, AreLoopsOwn, trees, root_at}
+use Rattle.name_table.specs.Table.{Table, Stands, AreLoopsOwn, AreNames, trees, root_at}
 
 -- nodes don't matter
 pub table_nodes_free : (t : Table) (w v : World) → SameNames w v → Stands t w → Stands t v
-table_nodes_free t w v same st = subst (Stands t) (sym same) (record { names = st.names; rising = st.rising; no_asks = st.no_asks; awaited = st.awaited; over = st.over; asks = st.asks; ended = st.ended; abandoned = st.abandoned; limit = st.limit; stopped = st.stopped })
+table_nodes_free t w v same st = subst (Stands t) (sym same) (record { names = st.names; rising = st.rising; no_asks = st.no_asks; no_key = st.no_key; awaited = st.awaited; over = st.over; asks = st.asks; ended = st.ended; abandoned = st.abandoned; limit = st.limit; stopped = st.stopped })
 
 -- the trees that are left over
 pub table_over_is : (t : Table) (w : World) → Stands t w → w.left_over ≡ trees t.over
@@ -88,8 +88,8 @@ pub table_rising : (t : Table) (w : World) → Stands t w → AreRising w.names
 table_rising t w st = subst AreRising (sym st.names) (shown_rising t.entries st.rising)
 
 -- the limit is the world's
-pub table_limit_is : (t : Table) (w : World) → Stands t w → w.limits.names ≡ t.limit
-table_limit_is t w st = st.limit
+pub table_limit_is : (t : Table) (w : World) → Stands t w → w.limits.names + 1 ≡ t.limit + 1
+table_limit_is t w st = ap (λ (n : ℕ). n + 1) st.limit
 
 root_case : (root : ℕ) (h : Held) → ◌≡◌ {A = Option Seen} (Some (held_shown [] h)) (Some (PromiseSeen root)) → root_of (Some h) ≡ Some root
 root_case root (Promise link) is = cc
@@ -109,9 +109,25 @@ root_held : (name root : ℕ) (es : List Entry) → held_at name (names_of es) �
 root_held name root [] is = absurd cc
 root_held name root (e ∷ es) is = root_step name root e es (nat_eq e.name.0 name) refl (root_held name root es) is
 
+isnt_key : (name : ℕ) → name < awaited_key → nat_eq name awaited_key ≡ false
+isnt_key name low = grind (arith, nat_tests)
+
+name_step : (name : ℕ) (e : Entry) (es : List Entry) (b : Bool) → nat_eq e.name.0 name ≡ b → AreNames (e ∷ es) → (AreNames es → IsSome (held_at name (names_of es)) → name < awaited_key)
+    → IsSome (held_at name (names_of (e ∷ es))) → name < awaited_key
+name_step name e es true t low ih some = let at : e.name.0 < awaited_key = low.0 in let here : e.name.0 ≡ name = grind (arith, nat_tests) in omega (arith, at, here)
+name_step name e es false t low ih some = ih low.1 (rw t at some)
+
+-- a name that is there doesn't have the key of what is awaited
+is_name : (name : ℕ) (es : List Entry) → AreNames es → IsSome (held_at name (names_of es)) → name < awaited_key
+is_name name [] low some = absurd cc
+is_name name (e ∷ es) low some = name_step name e es (nat_eq e.name.0 name) refl low (is_name name es) some
+
 -- each promise has its root
 pub table_roots_are : (t : Table) (w : World) (name root : ℕ) → Stands t w → held_at name w.names ≡ Some (PromiseSeen root) → root_at t name ≡ Some root
-table_roots_are t w name root st is = root_held name root t.entries (sym (ap (held_at name) st.names) ∙ is)
+table_roots_are t w name root st is =
+    let held : held_at name (names_of t.entries) ≡ Some (PromiseSeen root) = sym (ap (held_at name) st.names) ∙ is in
+    let low : name < awaited_key = is_name name t.entries st.no_key (ap (λ (o : Option Seen). is_some o) held) in
+    rw (isnt_key name low) (root_held name root t.entries held)
 
 request_case : (node : Option ℕ) (h : Held) → IsLoopsOwn h → ◌≡◌ {A = Option Seen} (Some (held_shown [] h)) (Some (RequestSeen node)) → ⊥
 request_case request (Promise link) own is = absurd cc

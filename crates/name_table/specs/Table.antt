@@ -1,19 +1,20 @@
 -- What a contract sees of a `NameTable`.
-use Rattle.std.specs.Prelude.{◌≡◌, ℕ, ◌≤◌, ◌<◌, ◌^◌, List, [], Option, Bool, not, ◌==◌, map, length, vec_capacity}
+use Rattle.std.specs.Prelude.{◌≡◌, ℕ, ◌+◌, ◌≤◌, ◌<◌, ◌^◌, List, [], Option, None, Some, Bool, not, ◌==◌, map, length, vec_capacity, if◌then◌else◌}
 use Rattle.std.specs.List.{AllByRecursion}
 use Rattle.kj_base.specs.declared.nodes.Link.{Link}
-use Rattle.kj_base.specs.declared.numbers.Name.{Name}
 use Rattle.kj_model.specs.World.{World}
-use Rattle.promise_names.specs.Held.{IsLoopsOwn, root_of, name_number, awaited_name}
+use Rattle.promise_nodes.specs.Kept.{awaited_root}
+use Rattle.promise_names.specs.Held.{IsLoopsOwn, awaited_key, awaited_shown, root_of}
+use Rattle.promise_names.specs.declared.names.Awaited.{Awaited}
 use Rattle.name_table.specs.declared.entries.Entry.{Entry}
 use Rattle.name_table.specs.declared.table.NameTable.TheInside.{Inside}
 use Rattle.name_table.specs.Entries.{IsRising, held_in, names_of}
 
--- the entries by rising name, how many there may be, the name that is awaited, what is left over, and whether the loop has stopped
+-- the entries by rising name, how many names there may be, the promise that is awaited, what is left over, and whether the loop has stopped
 pub record Table : Type 0 where
   pub entries : List Entry
   pub limit : ℕ
-  pub awaited : Option Name
+  pub awaited : Option Awaited
   pub over : List Link
   pub stopped : Bool
 
@@ -21,12 +22,12 @@ pub record Table : Type 0 where
 abbrev pub view_of : Inside → Table
 view_of t = record { entries = t.entries.items; limit = t.limit; awaited = t.awaited; over = t.over.items; stopped = t.stopped }
 
--- the names rise, and there is room for all that there may be, which a `u32` counts
+-- the names rise, and there is room for all that there may be, which a `u32` counts, and one more
 pub record IsKept (t : Inside) : Type 0 where
   pub rising : IsRising t.entries.items
-  pub few : length t.entries.items ≤ t.limit
+  pub few : length t.entries.items ≤ t.limit + 1
   pub counted : t.limit < 2 ^ 32
-  pub room : t.limit ≤ vec_capacity t.entries
+  pub room : t.limit + 1 ≤ vec_capacity t.entries
   pub room_over : 2 ≤ vec_capacity t.over
 
 -- the numbers of trees
@@ -41,12 +42,17 @@ is_other n tree = not (tree.number.0 == n)
 abbrev pub AreLoopsOwn : List Entry → Type 0
 AreLoopsOwn es = AllByRecursion (λ (e : Entry). IsLoopsOwn e.held) es
 
+-- no name has the key of what is awaited
+abbrev pub AreNames : List Entry → Type 0
+AreNames es = AllByRecursion (λ (e : Entry). e.name.0 < awaited_key) es
+
 -- the entries are the names of this world, which has their limit, and no asks, ended requests or abandoned cells
 pub record Stands (t : Table) (w : World) : Type 0 where
   pub names : w.names ≡ names_of t.entries
   pub rising : IsRising t.entries
   pub no_asks : AreLoopsOwn t.entries
-  pub awaited : awaited_name w.awaited ≡ name_number t.awaited
+  pub no_key : AreNames t.entries
+  pub awaited : w.awaited ≡ awaited_shown t.awaited
   pub over : w.left_over ≡ trees t.over
   pub asks : w.asks ≡ []
   pub ended : w.ended ≡ []
@@ -54,6 +60,15 @@ pub record Stands (t : Table) (w : World) : Type 0 where
   pub limit : w.limits.names ≡ t.limit
   pub stopped : w.stopped ≡ t.stopped
 
--- the root that a name promises
+-- the root that a name promises, or that is awaited
 abbrev pub root_at : Table → ℕ → Option ℕ
-root_at t name = root_of (held_in name t.entries)
+root_at t name = if name == awaited_key then awaited_root (awaited_shown t.awaited) else root_of (held_in name t.entries)
+
+-- how many promises are awaited
+abbrev pub held_count : Option Awaited → ℕ
+held_count None = 0
+held_count (Some a) = 1
+
+-- how many promises are awaited, and names are there
+abbrev pub count_of : Table → ℕ
+count_of t = length t.entries + held_count t.awaited

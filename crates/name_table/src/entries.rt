@@ -1,9 +1,9 @@
 //! Names with what they hold, by rising name.
 ghost use Rattle.std.specs.Prelude.{◌≡◌, ◌<◌, ◌≤◌, ◌+◌, ℕ, IsSome, nat_lt, map, insert, slice_get, vec_len, vec_capacity};
-ghost use Rattle.name_table.specs.Entries.{IsRising, held_in, without_entry, entered, rank, is_name_at, held_if, held_replaced, entry_replaced};
+ghost use Rattle.name_table.specs.Entries.{IsRising, held_in, without_entry, entered, rank, is_name_at, held_if, held_replaced, entry_replaced, awaited_replaced};
 
 use kj_base::{Link, Name};
-use promise_names::Held;
+use promise_names::{Awaited, Held};
 
 /// A name with what it holds.
 #[derive(Clone, Copy, Debug, PartialEq, Eq)]
@@ -95,6 +95,19 @@ pub fn held_after(held: Held, old: Link, new: Link) -> Held
 {
     match held {
         Held::Promise(root) if root.number.0 == old.number.0 => Held::Promise(new),
+        other => other,
+    }
+}
+
+/// The promise that is awaited, where a tree was replaced.
+pub fn awaited_after(awaited: Option<Awaited>, old: Link, new: Link) -> Option<Awaited>
+    ensures { result ≡ awaited_replaced old.number.0 new awaited }
+{
+    match awaited {
+        Some(promise) if promise.root.number.0 == old.number.0 => Some(Awaited {
+            name: promise.name,
+            root: new,
+        }),
         other => other,
     }
 }

@@ -1,13 +1,13 @@
 //! The table of names.
-ghost use Rattle.std.specs.Prelude.{◌≡◌, [], IfOk};
+ghost use Rattle.std.specs.Prelude.{◌≡◌, ℕ, [], None, IfOk};
 ghost use Rattle.kj_base.specs.declared.numbers.Limits.{Limits};
 ghost use Rattle.kj_model.specs.World.{new_world};
-ghost use Rattle.name_table.specs.Table.{Stands};
+ghost use Rattle.name_table.specs.Table.{Stands, count_of, root_at};
 
 use crate::entries::{self, Entry};
 use crate::left_over;
 use kj_base::{Limits, Link, Name, NoMemory};
-use promise_names::{Held, Leaving, Names};
+use promise_names::{Awaited, Held, Leaving, Names};
 use std::alloc::Global;
 use std::marker::Model;
 
@@ -20,7 +20,7 @@ const LEFT_OVER: usize = 2;
 pub struct NameTable {
     entries: Vec<Entry>,
     limit: u32,
-    awaited: Option<Name>,
+    awaited: Option<Awaited>,
     over: Vec<Link>,
     stopped: bool,
 }
@@ -42,12 +42,13 @@ impl NameTable {
     pub fn new(alloc: Global, limits: Limits) -> Result<NameTable, NoMemory>
         ensures stands { IfOk result
             (λ names. (all : Limits) → all.names ≡ limits.names → Stands names (new_world all)) }
-        ensures no_names { IfOk result (λ names. names.entries ≡ []) }
+        ensures no_names { IfOk result (λ names. count_of names ≡ 0) }
+        ensures no_promises { IfOk result (λ names. (name : ℕ) → root_at names name ≡ None) }
         ensures limit { IfOk result (λ names. names.limit ≡ limits.names) }
         ensures none_over { IfOk result (λ names. names.over ≡ []) }
     {
         Ok(NameTable {
-            entries: Vec::with_capacity(alloc, limits.names as usize)?,
+            entries: Vec::with_capacity(alloc, limits.names as usize + 1)?,
             limit: limits.names,
             awaited: None,
             over: Vec::with_capacity(alloc, LEFT_OVER)?,
@@ -57,16 +58,16 @@ impl NameTable {
 }
 
 impl Names for NameTable {
-    ghost use Rattle.std.specs.Prelude.{length};
-    ghost use Rattle.name_table.specs.Table.{Stands, root_at, trees};
+    ghost use Rattle.std.specs.Prelude.{◌+◌};
+    ghost use Rattle.name_table.specs.Table.{Stands, count_of, root_at, trees};
 
     ghost stands = { Stands };
 
     ghost roots = { root_at };
 
-    ghost count = { λ t. length t.entries };
+    ghost count = { count_of };
 
-    ghost limit = { λ t. t.limit };
+    ghost limit = { λ t. t.limit + 1 };
 
     ghost over = { λ t. trees t.over };
 
@@ -74,8 +75,8 @@ impl Names for NameTable {
         entries::held_of(&self.entries, name)
     }
 
-    fn len(&self) -> u32 {
-        self.entries.len() as u32
+    fn len(&self) -> u64 {
+        self.entries.len() as u64
     }
 
     fn limit(&self) -> u32 {
@@ -99,6 +100,7 @@ impl Names for NameTable {
 
     fn rename(&mut self, old: Link, new: Link) {
         entries::replace(&mut self.entries, old, new);
+        self.awaited = entries::awaited_after(self.awaited, old, new);
     }
 
     // No name has an ask, and no canceler a Wrap.
@@ -112,12 +114,16 @@ impl Names for NameTable {
         self.stopped = true;
     }
 
-    fn awaited(&self) -> Option<Name> {
+    fn awaited(&self) -> Option<Awaited> {
         self.awaited
     }
 
-    fn set_awaited(&mut self, name: Option<Name>) {
-        self.awaited = name;
+    fn hold(&mut self, name: Name, root: Link) {
+        self.awaited = Some(Awaited { name, root });
+    }
+
+    fn let_go(&mut self) {
+        self.awaited = None;
     }
 
     fn left_over(&self, place: usize) -> Option<Link> {

@@ -1,7 +1,7 @@
 //! Worked lists of calls.
 use crate::NameTable;
 use kj_base::{Limits, Link, Name, NodeId, Slot};
-use promise_names::{Held, Leaving, Names};
+use promise_names::{Awaited, Held, Leaving, Names};
 use std::test::Fail;
 
 // How many names there may be in these tests.
@@ -26,7 +26,7 @@ struct Row {
     name: u32,
     held: Option<Held>,
     first: Option<Name>,
-    len: u32,
+    len: u64,
 }
 
 fn tree(number: u64) -> Link {
@@ -40,7 +40,7 @@ fn promise(number: u64) -> Option<Held> {
     Some(Held::Promise(tree(number)))
 }
 
-fn make_row(call: Call, name: u32, held: Option<Held>, first: u32, len: u32) -> Row {
+fn make_row(call: Call, name: u32, held: Option<Held>, first: u32, len: u64) -> Row {
     Row {
         call,
         name,
@@ -54,7 +54,7 @@ fn make_row(call: Call, name: u32, held: Option<Held>, first: u32, len: u32) -> 
 fn run(names: &mut NameTable, call: &Call) {
     match call {
         Call::Remove(name) => names.remove(Name(*name)),
-        _ if names.len() >= names.limit() => {}
+        _ if names.len() >= u64::from(names.limit()) => {}
         Call::Promise(name, number) => names.set(Name(*name), Held::Promise(tree(*number))),
         Call::Canceler(name) => names.set(Name(*name), Held::Canceler),
     }
@@ -101,6 +101,31 @@ fn a_promise_has_another_tree(rt: HostRuntime) -> Result<(), Fail> {
 }
 
 #[test]
+fn an_awaited_promise_has_no_name(rt: HostRuntime) -> Result<(), Fail> {
+    let mut names = NameTable::new(rt.alloc(), LIMITS)?;
+    assert_eq!(rt; names.awaited(), None);
+    names.hold(Name(6), tree(1));
+    assert_eq!(rt; names.get(Name(6)), None);
+    assert_eq!(rt; names.len(), 0);
+    names.rename(tree(1), tree(8));
+    let promise = Awaited {
+        name: Name(6),
+        root: tree(8),
+    };
+    assert_eq!(rt; names.awaited(), Some(promise));
+    // A step may take its name, and all others that there may be.
+    for number in 5..5 + LIMIT {
+        run(&mut names, &Call::Promise(number, u64::from(number)));
+    }
+    assert_eq!(rt; names.len(), u64::from(LIMIT));
+    assert_eq!(rt; names.awaited(), Some(promise));
+    names.let_go();
+    assert_eq!(rt; names.awaited(), None);
+    assert_eq!(rt; names.len(), u64::from(LIMIT));
+    Ok(())
+}
+
+#[test]
 fn trees_are_left_over(rt: HostRuntime) -> Result<(), Fail> {
     let mut names = NameTable::new(rt.alloc(), LIMITS)?;
     names.leave_over(tree(4));
@@ -118,14 +143,11 @@ fn trees_are_left_over(rt: HostRuntime) -> Result<(), Fail> {
 fn loops_stop(rt: HostRuntime) -> Result<(), Fail> {
     let mut names = NameTable::new(rt.alloc(), LIMITS)?;
     assert!(rt; !names.is_stopped());
-    assert_eq!(rt; names.awaited(), None);
     run(&mut names, &Call::Canceler(3));
-    names.set_awaited(Some(Name(6)));
     names.left(tree(1), Leaving::Wrap(Name(3)));
     names.left(tree(1), Leaving::Cell);
     names.stop();
     assert!(rt; names.is_stopped());
-    assert_eq!(rt; names.awaited(), Some(Name(6)));
     assert_eq!(rt; names.get(Name(3)), Some(Held::Canceler));
     Ok(())
 }

@@ -19,7 +19,7 @@ pub struct KeyMap<V: Copy> {
 }
 
 // As many nodes; each has this value until it is used.
-fn make_nodes<V: Copy>(alloc: Global, count: u32, blank: V) -> Result<Vec<Box<Node<V>>>, NoMemory>
+fn make_nodes<V: Copy>(alloc: Global, count: u64, blank: V) -> Result<Vec<Box<Node<V>>>, NoMemory>
     ensures { IfOk result (λ nodes. vec_len nodes ≡ count) }
 {
     let mut nodes = Vec::with_capacity(alloc, count as usize)?;
@@ -37,7 +37,7 @@ fn make_nodes<V: Copy>(alloc: Global, count: u32, blank: V) -> Result<Vec<Box<No
 
 impl<V: Copy> KeyMap<V> {
     // No keys, and memory for as many.
-    pub(crate) fn new(alloc: Global, limit: u32, blank: V, cut: Cut) -> Result<KeyMap<V>, NoMemory>
+    pub(crate) fn new(alloc: Global, limit: u64, blank: V, cut: Cut) -> Result<KeyMap<V>, NoMemory>
         requires { IsCut cut.at cut.step }
         ensures map { IfOk result (λ m. IsMap m) }
         ensures total { IfOk result (λ m. total_of m ≡ limit) }

@@ -1,15 +1,15 @@
 //! The tree of names.
-ghost use Rattle.std.specs.Prelude.{◌≡◌, [], IfOk};
+ghost use Rattle.std.specs.Prelude.{◌≡◌, ℕ, [], None, IfOk};
 ghost use Rattle.kj_base.specs.declared.numbers.Limits.{Limits};
 ghost use Rattle.kj_model.specs.World.{new_world};
-ghost use Rattle.name_table.specs.Table.{Stands};
+ghost use Rattle.name_table.specs.Table.{Stands, count_of, root_at};
 
 use crate::changes;
 use crate::cut::Cut;
 use crate::map::KeyMap;
 use kj_base::{Limits, Link, Name, NoMemory};
-use name_table::left_over;
-use promise_names::{Held, Leaving, Names};
+use name_table::{awaited_after, left_over};
+use promise_names::{Awaited, Held, Leaving, Names};
 use std::alloc::Global;
 use std::marker::Model;
 
@@ -36,7 +36,7 @@ pub struct NameTree {
     roots: KeyMap<Name>,
     pub(crate) is_known: bool,
     limit: u32,
-    awaited: Option<Name>,
+    awaited: Option<Awaited>,
     over: Vec<Link>,
     stopped: bool,
 }
@@ -58,13 +58,15 @@ impl NameTree {
     pub fn new(alloc: Global, limits: Limits) -> Result<NameTree, NoMemory>
         ensures stands { IfOk result
             (λ names. (all : Limits) → all.names ≡ limits.names → Stands names (new_world all)) }
-        ensures no_names { IfOk result (λ names. names.entries ≡ []) }
+        ensures no_names { IfOk result (λ names. count_of names ≡ 0) }
+        ensures no_promises { IfOk result (λ names. (name : ℕ) → root_at names name ≡ None) }
         ensures limit { IfOk result (λ names. names.limit ≡ limits.names) }
         ensures none_over { IfOk result (λ names. names.over ≡ []) }
     {
+        let most = u64::from(limits.names) + 1;
         Ok(NameTree {
-            names: KeyMap::new(alloc, limits.names, Held::Canceler, NAME_CUT)?,
-            roots: KeyMap::new(alloc, limits.names, Name(0), ROOT_CUT)?,
+            names: KeyMap::new(alloc, most, Held::Canceler, NAME_CUT)?,
+            roots: KeyMap::new(alloc, most, Name(0), ROOT_CUT)?,
             is_known: true,
             limit: limits.names,
             awaited: None,
@@ -75,16 +77,16 @@ impl NameTree {
 }
 
 impl Names for NameTree {
-    ghost use Rattle.std.specs.Prelude.{length};
-    ghost use Rattle.name_table.specs.Table.{Stands, root_at, trees};
+    ghost use Rattle.std.specs.Prelude.{◌+◌};
+    ghost use Rattle.name_table.specs.Table.{Stands, count_of, root_at, trees};
 
     ghost stands = { Stands };
 
     ghost roots = { root_at };
 
-    ghost count = { λ t. length t.entries };
+    ghost count = { count_of };
 
-    ghost limit = { λ t. t.limit };
+    ghost limit = { λ t. t.limit + 1 };
 
     ghost over = { λ t. trees t.over };
 
@@ -92,8 +94,8 @@ impl Names for NameTree {
         self.names.get(name.0 as u64)
     }
 
-    fn len(&self) -> u32 {
-        self.limit - self.names.spare.len() as u32
+    fn len(&self) -> u64 {
+        u64::from(self.limit) + 1 - self.names.spare.len() as u64
     }
 
     fn limit(&self) -> u32 {
@@ -119,6 +121,7 @@ impl Names for NameTree {
     fn rename(&mut self, old: Link, new: Link) {
         let (names, roots) = (&mut self.names, &mut self.roots);
         self.is_known = changes::rename(names, roots, self.is_known, old, new);
+        self.awaited = awaited_after(self.awaited, old, new);
     }
 
     // No name has an ask, and no canceler a Wrap.
@@ -132,12 +135,16 @@ impl Names for NameTree {
         self.stopped = true;
     }
 
-    fn awaited(&self) -> Option<Name> {
+    fn awaited(&self) -> Option<Awaited> {
         self.awaited
     }
 
-    fn set_awaited(&mut self, name: Option<Name>) {
-        self.awaited = name;
+    fn hold(&mut self, name: Name, root: Link) {
+        self.awaited = Some(Awaited { name, root });
+    }
+
+    fn let_go(&mut self) {
+        self.awaited = None;
     }
 
     fn left_over(&self, place: usize) -> Option<Link> {

@@ -2,7 +2,7 @@
 use crate::NameTree;
 use kj_base::{Limits, Link, Name, NodeId, Slot};
 use name_table::NameTable;
-use promise_names::{Held, Leaving, Names};
+use promise_names::{Awaited, Held, Leaving, Names};
 use std::test::Fail;
 
 const LIMITS: Limits = Limits { slots: 8, names: 3 };
@@ -39,7 +39,7 @@ fn run<N: Names>(names: &mut N, call: u32, number: u64) {
     let name = Name(call & NAME_BITS);
     match call >> 8 & 3 {
         3 => names.remove(name),
-        _ if names.len() >= names.limit() => {}
+        _ if names.len() >= u64::from(names.limit()) => {}
         2 => names.set(name, Held::Canceler),
         _ => names.set(name, Held::Promise(tree(number))),
     }
@@ -65,7 +65,7 @@ fn calls_do_what_those_of_a_table_do(rt: HostRuntime) -> Result<(), Fail> {
         assert_eq!(rt; names.len(), table.len());
         most = names.len().max(most);
     }
-    assert_eq!(rt; most, MANY.names);
+    assert_eq!(rt; most, u64::from(MANY.names));
     // No two names have promised one tree, so each root is known.
     assert!(rt; names.is_known);
     Ok(())
@@ -78,7 +78,7 @@ fn the_lowest_and_the_highest_name_are_names(rt: HostRuntime) -> Result<(), Fail
     let highest = Name(u32::MAX);
     names.set(highest, Held::Promise(tree(u64::MAX)));
     assert_eq!(rt; names.first(), Some(highest));
-    if names.len() < names.limit() {
+    if names.len() < u64::from(names.limit()) {
         names.set(Name(0), Held::Canceler);
     }
     assert_eq!(rt; names.first(), Some(Name(0)));
@@ -110,12 +110,39 @@ fn a_tree_without_a_name_has_none(rt: HostRuntime) -> Result<(), Fail> {
 fn a_tree_is_found_that_two_names_promised(rt: HostRuntime) -> Result<(), Fail> {
     let mut names = NameTree::new(rt.alloc(), LIMITS)?;
     names.set(Name(6), Held::Promise(tree(1)));
-    if names.len() < names.limit() {
+    if names.len() < u64::from(names.limit()) {
         names.set(Name(5), Held::Promise(tree(1)));
     }
     names.remove(Name(6));
     names.rename(tree(1), tree(8));
     assert_eq!(rt; names.get(Name(5)), promise(8));
+    Ok(())
+}
+
+#[test]
+fn an_awaited_promise_has_no_name(rt: HostRuntime) -> Result<(), Fail> {
+    let mut names = NameTree::new(rt.alloc(), LIMITS)?;
+    assert_eq!(rt; names.awaited(), None);
+    names.hold(Name(6), tree(1));
+    assert_eq!(rt; names.get(Name(6)), None);
+    assert_eq!(rt; names.len(), 0);
+    names.rename(tree(1), tree(8));
+    let held = Awaited {
+        name: Name(6),
+        root: tree(8),
+    };
+    assert_eq!(rt; names.awaited(), Some(held));
+    // A step may take its name, and all others that there may be.
+    for number in 5..5 + LIMITS.names {
+        if names.len() < u64::from(names.limit()) {
+            names.set(Name(number), Held::Promise(tree(u64::from(number))));
+        }
+    }
+    assert_eq!(rt; names.len(), u64::from(LIMITS.names));
+    assert_eq!(rt; names.awaited(), Some(held));
+    names.let_go();
+    assert_eq!(rt; names.awaited(), None);
+    assert_eq!(rt; names.get(Name(6)), promise(6));
     Ok(())
 }
 
@@ -137,14 +164,11 @@ fn trees_are_left_over(rt: HostRuntime) -> Result<(), Fail> {
 fn loops_stop(rt: HostRuntime) -> Result<(), Fail> {
     let mut names = NameTree::new(rt.alloc(), LIMITS)?;
     assert!(rt; !names.is_stopped());
-    assert_eq!(rt; names.awaited(), None);
     names.set(Name(3), Held::Canceler);
-    names.set_awaited(Some(Name(6)));
     names.left(tree(1), Leaving::Wrap(Name(3)));
     names.left(tree(1), Leaving::Cell);
     names.stop();
     assert!(rt; names.is_stopped());
-    assert_eq!(rt; names.awaited(), Some(Name(6)));
     assert_eq!(rt; names.get(Name(3)), Some(Held::Canceler));
     Ok(())
 }

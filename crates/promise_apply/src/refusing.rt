@@ -61,7 +61,7 @@ fn awaited_more<M: Names>(names: &M, uses: &[Use]) -> u64
     ensures few { result ≤ 1 }
 {
     match names.awaited() {
-        Some(name) if !stays(names, uses, name) => 1,
+        Some(promise) if !stays(names, uses, promise.name) => 1,
         _ => 0,
     }
 }
@@ -70,11 +70,11 @@ fn awaited_more<M: Names>(names: &M, uses: &[Use]) -> u64
 fn names_after<M: Names>(names: &M, uses: &[Use]) -> u64
     requires few { length uses.now ≤ 9 }
     ensures count { M.count names.now + count_new (uses_shown uses.now)
-        - count_sources (uses_shown uses.now) ≤ result }
+        - count_sources (uses_shown uses.now) ≤ result + 1 }
     ensures names { (w : World) → M.stands names.now w → ArePassed (uses_shown uses.now) w
         → result ≡ names_left (uses_shown uses.now) w }
 {
-    let there = u64::from(names.len()) + news(uses);
+    let there = names.len() + news(uses);
     there.saturating_sub(taken_sources(uses)) + awaited_more(names, uses)
 }
 

@@ -1,5 +1,5 @@
 //! A Chain whose Then was evaluated.
-ghost use Rattle.std.specs.Prelude.{◌≡◌, ℕ, Some, true, vec_capacity};
+ghost use Rattle.std.specs.Prelude.{◌≡◌, Some, true, vec_capacity};
 ghost use Rattle.kj_model.specs.World.{World};
 ghost use Rattle.kj_model.specs.Nodes.{Ready, renamed};
 ghost use Rattle.kj_model.specs.Changes.{put};
@@ -57,23 +57,18 @@ fn renamed_awaited(awaited: Option<Link>, old: Link, new: Link) -> Option<Link>
 }
 
 // A wait for the tree of old awaits new now.
-fn rename_awaited<N: Nodes, M: Names>(nodes: &mut N, names: &mut M, old: Link, new: Link)
-    ensures stands { (w : World) → Both (N.stands nodes.old) (M.stands names.old) w
-        → Both (N.stands nodes.new) (M.stands names.new)
+fn rename_awaited<N: Nodes>(nodes: &mut N, old: Link, new: Link)
+    ensures stands { (w : World)
+        → N.stands nodes.old w
+        → N.stands nodes.new
         (record w { awaited = awaited_renamed old.number.0 new.number.0 w.awaited }) }
     ensures taken { OnlyFalls (N.is_taken nodes.old) (N.is_taken nodes.new) }
     ensures plain { OnlyRises (N.is_plain nodes.old) (N.is_plain nodes.new) }
     ensures next { N.next nodes.new ≡ N.next nodes.old }
     ensures slots { N.slots nodes.new ≡ N.slots nodes.old }
-    ensures roots { (name : ℕ) → M.roots names.new name ≡ M.roots names.old name }
-    ensures count { M.count names.new ≡ M.count names.old }
-    ensures limit { M.limit names.new ≡ M.limit names.old }
-    ensures over { M.over names.new ≡ M.over names.old }
 {
     let awaited = nodes.awaited();
     nodes.set_awaited(renamed_awaited(awaited, old, new));
-    let name = names.awaited();
-    names.set_awaited(name);
 }
 
 // The tree of a root that nothing owns takes the place of a Chain: under its owner, under a name, or awaited.
@@ -94,7 +89,7 @@ fn give_place<N: Nodes, M: Names>(nodes: &mut N, names: &mut M, chain: Link, roo
 {
     nodes.replace(chain, root);
     names.rename(chain, root);
-    rename_awaited(nodes, names, chain, root);
+    rename_awaited(nodes, chain, root);
 }
 
 /// The Then of a Chain gave an outcome or a promise: it is freed; the Chain is Ready in place, or gives its place to the

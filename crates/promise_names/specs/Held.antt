@@ -1,12 +1,13 @@
 -- What a keeper of names says of what names hold.
-use Rattle.std.specs.Prelude.{◌≡◌, ℕ, ◌<◌, List, [], ◌∷◌, ◌++◌, map, Option, None, Some, Bool, true, false}
+use Rattle.std.specs.Prelude.{◌≡◌, ℕ, ◌<◌, List, [], ◌∷◌, ◌++◌, ◌^◌, map, Option, None, Some, Bool, true, false}
 use Rattle.kj_base.specs.declared.numbers.Name.{Name}
 use Rattle.kj_base.specs.Commands.{step_of}
 use Rattle.kj_model.specs.Nodes.{renamed}
-use Rattle.kj_model.specs.Fire.{named_renamed}
+use Rattle.kj_model.specs.Fire.{awaited_renamed, named_renamed}
 use Rattle.kj_model.specs.Free.{abandoned_as, ask_of, without_wrap}
 use Rattle.kj_model.specs.World.{World, Named, Awaited, Held, Promise, CellOf, AskCell, HubOf, Group, Canceler, RequestOf}
 use Rattle.promise_nodes.specs.Shown.{link_number}
+use Rattle.promise_names.specs.declared.names.Awaited.{Awaited as AwaitedCase}
 use Rattle.promise_names.specs.declared.names.Held.{Held as HeldCase}
 use Rattle.promise_names.specs.declared.names.Leaving.{Leaving}
 use Rattle.promise_names.specs.declared.names.Leaving.TheVariants.{Nothing, Cell as CellLeaves, Wrap as WrapLeaves}
@@ -76,10 +77,14 @@ abbrev pub name_number : Option Name → Option ℕ
 name_number None = None
 name_number (Some name) = Some name.0
 
--- the name of the tree that is awaited
-abbrev pub awaited_name : Option Awaited → Option ℕ
-awaited_name None = None
-awaited_name (Some a) = Some a.name
+-- the key of the root that is awaited, which no name has
+abbrev pub awaited_key : ℕ
+awaited_key = 2 ^ 32
+
+-- what the promise that is awaited is
+abbrev pub awaited_shown : Option AwaitedCase → Option Awaited
+awaited_shown None = None
+awaited_shown (Some a) = Some (record { name = a.name.0; root = a.root.number.0 })
 
 -- the lowest name
 abbrev pub first_name : List Named → Option ℕ
@@ -91,9 +96,9 @@ abbrev pub root_renamed : ℕ → ℕ → Option ℕ → Option ℕ
 root_renamed old new None = None
 root_renamed old new (Some root) = Some (renamed old new root)
 
--- the names, where a tree was replaced
+-- the names and what is awaited, where a tree was replaced
 abbrev pub roots_replaced : ℕ → ℕ → World → World
-roots_replaced old new w = record w { names = map (named_renamed old new) w.names }
+roots_replaced old new w = record w { names = map (named_renamed old new) w.names; awaited = awaited_renamed old new w.awaited }
 
 -- one more tree is left over
 abbrev pub with_left_over : ℕ → World → World

@@ -3,4 +3,4 @@
 
 mod names;
 
-pub use names::{Held, Leaving, Names};
+pub use names::{Awaited, Held, Leaving, Names};

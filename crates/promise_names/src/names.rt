@@ -1,13 +1,14 @@
 //! A keeper of names.
-ghost use Rattle.std.specs.Prelude.{◌≡◌, ◌+◌, ◌<◌, ◌≤◌, ◌++◌, ◌∷◌, [], ℕ, List, Option, None, Some, Bool, true, false, IsSome, length, slice_get};
-ghost use Rattle.kj_model.specs.World.{World, Awaited, Promise, RequestOf, held_at};
+ghost use Rattle.std.specs.Prelude.{◌≡◌, ◌+◌, ◌<◌, ◌≤◌, ◌++◌, ◌∷◌, ◌^◌, [], ℕ, List, Option, None, Some, Bool, true, false, IsSome, length, slice_get};
+ghost use Rattle.kj_model.specs.World.{World, Promise, RequestOf, held_at};
 ghost use Rattle.kj_model.specs.Nodes.{dropped};
+ghost use Rattle.kj_model.specs.Calls.{with_awaited};
 ghost use Rattle.kj_model.specs.Changes.{named, unnamed};
 ghost use Rattle.kj_model.specs.Fire.{group_of, without_left_over};
 ghost use Rattle.promise_nodes.specs.Shown.{link_number};
-ghost use Rattle.promise_nodes.specs.Kept.{SameNames};
+ghost use Rattle.promise_nodes.specs.Kept.{SameNames, awaited_root};
 ghost use Rattle.promise_names.specs.Once.{AreOnce, AreRising};
-ghost use Rattle.promise_names.specs.Held.{held_shown, SeesHeld, IsListless, IsLoopsOwn, HasRoot, root_of, name_number, awaited_name, first_name, root_renamed, roots_replaced, with_left_over, with_lost, stopped_world, left_world, members_of, AreApart, HasNoneListed};
+ghost use Rattle.promise_names.specs.Held.{held_shown, SeesHeld, IsListless, IsLoopsOwn, HasRoot, root_of, name_number, awaited_key, awaited_shown, first_name, root_renamed, roots_replaced, with_left_over, with_lost, stopped_world, left_world, members_of, AreApart, HasNoneListed};
 ghost use Rattle.promise_names.specs.declared.names.Held.{Held};
 
 use kj_base::{Link, Name, StepId};
@@ -34,6 +35,13 @@ pub enum Held {
     RequestOf(Option<Link>),
 }
 
+/// The promise that a wait awaits: the name that it left, and its tree.
+#[derive(Clone, Copy, Debug, PartialEq, Eq)]
+pub struct Awaited {
+    pub name: Name,
+    pub root: Link,
+}
+
 /// What a node that goes leaves to whoever keeps the names.
 #[derive(Clone, Copy, Debug, PartialEq, Eq)]
 pub enum Leaving {
@@ -50,13 +58,13 @@ pub trait Names {
     /// It stands for the names and lists of this world, and whether that is stopped, whatever its nodes are.
     ghost stands: { Self → World → Type 0 };
 
-    /// The root that each name promises.
+    /// The root that each name promises, and the one that is awaited, by a key that no name has.
     ghost roots: { Self → ℕ → Option ℕ };
 
-    /// How many names there are.
+    /// How many promises are awaited, and names are there.
     ghost count: { Self → ℕ };
 
-    /// How many names there may be; no call changes it.
+    /// How many of these there may be, which is one more than the names that there may be; no call changes it.
     ghost limit: { Self → ℕ };
 
     /// The trees that are left over, in order; two at most.
@@ -68,13 +76,15 @@ pub trait Names {
         ensures root { root_of result ≡ roots self.now name.0 };
 
     /// How many names there are.
-    fn len(&self) -> u32
-        ensures count { result ≡ count self.now }
-        ensures names { (w : World) → stands self.now w → length w.names ≡ count self.now };
+    fn len(&self) -> u64
+        ensures count { result ≤ count self.now }
+        ensures awaited { count self.now ≤ result + 1 }
+        ensures bound { result ≤ 2 ^ 32 }
+        ensures names { (w : World) → stands self.now w → length w.names ≡ result };
 
     /// How many names there may be.
     fn limit(&self) -> u32
-        ensures { result ≡ limit self.now };
+        ensures { result + 1 ≡ limit self.now };
 
     /// The lowest name.
     fn first(&self) -> Option<Name>
@@ -100,7 +110,7 @@ pub trait Names {
         ensures limit { limit self.new ≡ limit self.old }
         ensures over { over self.new ≡ over self.old };
 
-    /// The promise of a tree, where a name has it, has another tree now.
+    /// The promise of a tree, where a name has it or it is awaited, has another tree now.
     fn rename(&mut self, old: Link, new: Link)
         requires apart { AreApart (roots self.old) }
         ensures stands { (w : World) → stands self.old w
@@ -132,16 +142,33 @@ pub trait Names {
         ensures limit { limit self.new ≡ limit self.old }
         ensures over { over self.new ≡ over self.old };
 
-    /// The name of the promise that a wait awaits.
-    fn awaited(&self) -> Option<Name>
-        ensures { (w : World) → stands self.now w → name_number result ≡ awaited_name w.awaited };
+    /// The promise that a wait awaits.
+    fn awaited(&self) -> Option<Awaited>
+        ensures awaited { (w : World) → stands self.now w → w.awaited ≡ awaited_shown result }
+        ensures root { awaited_root (awaited_shown result) ≡ roots self.now awaited_key };
 
-    /// A wait awaits the promise of this name, or none.
-    fn set_awaited(&mut self, name: Option<Name>)
-        ensures stands { (w : World) (a : Option Awaited) → stands self.old w
-            → awaited_name a ≡ name_number name → stands self.new (record w { awaited = a }) }
-        ensures roots { (name : ℕ) → roots self.new name ≡ roots self.old name }
-        ensures count { count self.new ≡ count self.old }
+    /// A wait awaits the promise of this tree, which left this name.
+    fn hold(&mut self, name: Name, root: Link)
+        requires room { count self.old < limit self.old }
+        ensures stands { (w : World)
+            → stands self.old w
+            → stands self.new
+            (with_awaited (awaited_shown (Some (record { name = name; root = root }))) w) }
+        ensures root { HasRoot (roots self.old) (roots self.new) awaited_key
+            (Some root.number.0) }
+        ensures few { count self.new ≤ count self.old + 1 }
+        ensures limit { limit self.new ≡ limit self.old }
+        ensures over { over self.new ≡ over self.old };
+
+    /// None is awaited any more.
+    fn let_go(&mut self)
+        ensures stands { (w : World)
+            → stands self.old w
+            → stands self.new (with_awaited None w) }
+        ensures root { HasRoot (roots self.old) (roots self.new) awaited_key None }
+        ensures gone { IsSome (roots self.old awaited_key)
+            → count self.new + 1 ≡ count self.old }
+        ensures few { count self.new ≤ count self.old }
         ensures limit { limit self.new ≡ limit self.old }
         ensures over { over self.new ≡ over self.old };
 
@@ -192,7 +219,8 @@ pub trait Names {
     ghost once: { (names : Self) (w : World) → stands names w → AreOnce w.names };
 
     /// How many names there may be in each world that it stands for.
-    ghost limit_is: { (names : Self) (w : World) → stands names w → w.limits.names ≡ limit names };
+    ghost limit_is: { (names : Self) (w : World) → stands names w
+        → w.limits.names + 1 ≡ limit names };
 
     /// The root of each promise in each world that it stands for.
     ghost roots_are: { (names : Self) (w : World) (name root : ℕ) → stands names w

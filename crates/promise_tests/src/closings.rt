@@ -114,7 +114,8 @@ fn hold(over: &mut TableEvaluator, name: u32, held: Held) -> bool
     ensures over { trees over.new.names.over ≡ trees over.old.names.over }
 {
     let names = &mut over.ground.keepers.names;
-    if names.len() >= names.limit() {
+    let limit = u64::from(names.limit());
+    if names.len() >= limit {
         return false;
     }
     names.set(Name(name), held);

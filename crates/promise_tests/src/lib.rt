@@ -16,6 +16,8 @@ mod teller;
 mod turns;
 #[cfg(test)]
 mod unheard;
+#[cfg(test)]
+mod waits;
 
 pub use tables::{TableEvaluator, evaluator_over_tables};
 pub use teller::Teller;

@@ -1,9 +1,9 @@
 //! The layers over the plain store, the plain queue and the table of names.
-ghost use Rattle.std.specs.Prelude.{◌≡◌, ◌≤◌, [], IfOk};
+ghost use Rattle.std.specs.Prelude.{◌≡◌, ◌≤◌, ℕ, [], None, IfOk};
 ghost use Rattle.kj_model.specs.World.{new_world};
 ghost use Rattle.node_table.specs.NodeTable.{node_of, Stands as TableStands};
 ghost use Rattle.promise_graph.specs.Standing.{StandsFor};
-ghost use Rattle.name_table.specs.Table.{Stands as NamesStand, trees};
+ghost use Rattle.name_table.specs.Table.{Stands as NamesStand, count_of, root_at, trees};
 
 use event_list::EventList;
 use kj_base::{Limits, MAX_SLOTS, NoMemory};
@@ -39,7 +39,8 @@ fn table_graph(alloc: Global, limits: Limits) -> Result<Graph<NodeTable, EventLi
 // No names.
 fn no_names(alloc: Global, limits: Limits) -> Result<NameTable, NoMemory>
     ensures stands { IfOk result (λ n. NamesStand n (new_world limits)) }
-    ensures no_promises { IfOk result (λ n. n.entries ≡ []) }
+    ensures no_promises { IfOk result (λ n. (name : ℕ) → root_at n name ≡ None) }
+    ensures none { IfOk result (λ n. count_of n ≡ 0) }
     ensures none_over { IfOk result (λ n. trees n.over ≡ []) }
 {
     match NameTable::new(alloc, limits) {

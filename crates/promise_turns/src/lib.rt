@@ -10,4 +10,4 @@ mod turned;
 mod turning;
 
 pub use turned::{TakenTurn, Turned};
-pub use turning::{take_turn, turn};
+pub use turning::{has_ended, take_turn, turn};

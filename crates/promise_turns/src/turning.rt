@@ -108,8 +108,8 @@ pub fn take_turn<N: Nodes + Drop, M: Names + Drop, S: Steps>(
     }
 }
 
-// Whether the loop has stopped, as it has where a tree is left over.
-fn has_ended<N: Nodes + Drop, M: Names + Drop>(over: &Evaluator<N, M>) -> bool
+/// Whether the loop has stopped, as it has where a tree is left over.
+pub fn has_ended<N: Nodes + Drop, M: Names + Drop>(over: &Evaluator<N, M>) -> bool
     ensures stopped { (s : State)
         → M.stands over.now.names s.world
         → Rests s

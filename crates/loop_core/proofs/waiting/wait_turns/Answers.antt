@@ -1,15 +1,16 @@
 -- Turn by turn.
-use Rattle.std.proofs.Common.{ℕ, suc, ◌≡◌, ◌∙◌, ◌-◌, ◌≤◌, Bool, true, false, refl, ap, subst, arith}
+use Rattle.std.proofs.Common.{ℕ, suc, ◌≡◌, ◌∙◌, ◌-◌, ◌≤◌, Bool, true, false, refl, sym, ap, subst, arith}
 use Rattle.std.specs.Prelude.{nat_eq}
+use Rattle.std.proofs.lemmas.Bool.{false≢true}
 use Rattle.std.proofs.lemmas.Bool.Decides.{nat_tests}
 use Rattle.kj_model.specs.Calls.{Turns, let_go, wait_more}
 use Rattle.kj_model.specs.World.{State, Setting}
 use Rattle.promise_turns.specs.declared.turned.TakenTurn.TheVariants.{Fired, Idle as IdleIn, NoMemory as NoMemoryIn}
 use Rattle.loop_core.specs.Calls.{CallIs}
-use Rattle.loop_core.specs.Waits.{Rested, Waits, left_of_wait}
-use Rattle.loop_core.specs.declared.waiting.WaitEnd.TheVariants.{Ready, Idle, NoMemory}
-use Rattle.loop_core.proofs.Called.{Found, call_then, found_none, found_then, stands_still}
-use Rattle.loop_core.proofs.WaitTurns.{TakenIs, call_rested, last_lacks, none_fired, none_found, other_fired, own_fired}
+use Rattle.loop_core.specs.Waits.{Rested, Waits, lacked_at, left_of_wait}
+use Rattle.loop_core.specs.declared.waiting.WaitEnd.TheVariants.{AllMade, Ready, Idle, NoMemory}
+use Rattle.loop_core.proofs.Called.{Found, call_then, found_none, found_only, found_then, stands_still}
+use Rattle.loop_core.proofs.WaitTurns.{TakenIs, found_rested, last_lacks, none_fired, none_found, other_fired, own_fired}
 use Rattle.loop_core.proofs.waiting.wait_turns.Goals as goal
 
 isnt_zero : (n : ℕ) → (n ≡ 0 → ⊥) → nat_eq n 0 ≡ false
@@ -41,9 +42,10 @@ returns-then-event-eq0-clause-waits g c =
     let same : suc rest ≡ c.loop-left.left = omega (arith, c.loop-left-test.true) in
     let t : TakenIs g.N.Nodes.rule (g.N.Nodes.stands c.loop-left.over.nodes) (g.M.Names.stands c.loop-left.over.names) (g.N.Nodes.stands c.take_turn.new.over.nodes) (g.M.Names.stands c.take_turn.new.over.names) (Fired c.in-Fired.event) (g.S.Steps.told c.loop-left.steps) (g.S.Steps.told c.take_turn.new.steps) (g.S.Steps.lacks c.loop-left.steps) (g.S.Steps.lacks c.take_turn.new.steps) = record { acts = c.in-Fired.ensures.turns; memory = c.in-Fired.ensures.memory; event = c.in-Fired.ensures.event } in
     let C : State → Type 0 = Rested g.N.Nodes.rule (g.N.Nodes.stands c.take_turn.new.over.nodes) (g.M.Names.stands c.take_turn.new.over.names) in
-    let last = subst (λ (k : ℕ). CallIs B C g.N.Nodes.rule (λ (setting : Setting). wait_more setting k) (λ (setting : Setting). left_of_wait Ready setting) (g.S.Steps.told c.loop-left.steps) (g.S.Steps.told c.take_turn.new.steps) (g.S.Steps.lacks c.loop-left.steps) (g.S.Steps.lacks c.take_turn.new.steps)) same
+    let last = subst (λ (k : ℕ). Found B C g.N.Nodes.rule (λ (setting : Setting). wait_more setting k) (λ (setting : Setting). left_of_wait Ready setting) (g.S.Steps.told c.loop-left.steps) (g.S.Steps.told c.take_turn.new.steps) (g.S.Steps.lacks c.loop-left.steps) (g.S.Steps.lacks c.take_turn.new.steps)) same
     (own_fired g.N.Nodes.rule (g.N.Nodes.stands c.loop-left.over.nodes) (g.M.Names.stands c.loop-left.over.names) (g.N.Nodes.stands c.take_turn.new.over.nodes) (g.M.Names.stands c.take_turn.new.over.names) c.in-Fired.event rest _ _ _ _ (ap (λ (n : ℕ). nat_eq n 0) c.if-event-eq0.true) t) in
-    call_then A B C g.N.Nodes.rule (λ (setting : Setting). wait_more setting c.args.turns) (λ (setting : Setting). wait_more setting c.loop-left.left) (λ (setting : Setting). left_of_wait Ready setting) _ _ _ _ _ _ c.loop-left.invariant.1.call c.loop-left.invariant.1.none last
+    found_only (lacked_at Ready) A C g.N.Nodes.rule (λ (setting : Setting). wait_more setting c.args.turns) (λ (setting : Setting). left_of_wait Ready setting) _ _ _ _
+    (found_then A B C g.N.Nodes.rule (λ (setting : Setting). wait_more setting c.args.turns) (λ (setting : Setting). wait_more setting c.loop-left.left) (λ (setting : Setting). left_of_wait Ready setting) _ _ _ _ _ _ c.loop-left.invariant.1 last)
 
 pub returns-then-event-eq0-clause-memory : goal.returns-then-event-eq0-clause-memory
 returns-then-event-eq0-clause-memory g c =
@@ -73,9 +75,10 @@ returns-in-Idle-clause-waits g c =
     let same : suc rest ≡ c.loop-left.left = omega (arith, c.loop-left-test.true) in
     let t : TakenIs g.N.Nodes.rule (g.N.Nodes.stands c.loop-left.over.nodes) (g.M.Names.stands c.loop-left.over.names) (g.N.Nodes.stands c.take_turn.new.over.nodes) (g.M.Names.stands c.take_turn.new.over.names) IdleIn (g.S.Steps.told c.loop-left.steps) (g.S.Steps.told c.take_turn.new.steps) (g.S.Steps.lacks c.loop-left.steps) (g.S.Steps.lacks c.take_turn.new.steps) = record { acts = c.in-Idle.ensures.turns; memory = c.in-Idle.ensures.memory; event = c.in-Idle.ensures.event } in
     let C : State → Type 0 = Rested g.N.Nodes.rule (g.N.Nodes.stands c.take_turn.new.over.nodes) (g.M.Names.stands c.take_turn.new.over.names) in
-    let last = subst (λ (k : ℕ). CallIs B C g.N.Nodes.rule (λ (setting : Setting). wait_more setting k) (λ (setting : Setting). left_of_wait Idle setting) (g.S.Steps.told c.loop-left.steps) (g.S.Steps.told c.take_turn.new.steps) (g.S.Steps.lacks c.loop-left.steps) (g.S.Steps.lacks c.take_turn.new.steps)) same
+    let last = subst (λ (k : ℕ). Found B C g.N.Nodes.rule (λ (setting : Setting). wait_more setting k) (λ (setting : Setting). left_of_wait Idle setting) (g.S.Steps.told c.loop-left.steps) (g.S.Steps.told c.take_turn.new.steps) (g.S.Steps.lacks c.loop-left.steps) (g.S.Steps.lacks c.take_turn.new.steps)) same
     (none_fired g.N.Nodes.rule (g.N.Nodes.stands c.loop-left.over.nodes) (g.M.Names.stands c.loop-left.over.names) (g.N.Nodes.stands c.take_turn.new.over.nodes) (g.M.Names.stands c.take_turn.new.over.names) rest _ _ _ _ t) in
-    call_then A B C g.N.Nodes.rule (λ (setting : Setting). wait_more setting c.args.turns) (λ (setting : Setting). wait_more setting c.loop-left.left) (λ (setting : Setting). left_of_wait Idle setting) _ _ _ _ _ _ c.loop-left.invariant.1.call c.loop-left.invariant.1.none last
+    found_only (lacked_at Idle) A C g.N.Nodes.rule (λ (setting : Setting). wait_more setting c.args.turns) (λ (setting : Setting). left_of_wait Idle setting) _ _ _ _
+    (found_then A B C g.N.Nodes.rule (λ (setting : Setting). wait_more setting c.args.turns) (λ (setting : Setting). wait_more setting c.loop-left.left) (λ (setting : Setting). left_of_wait Idle setting) _ _ _ _ _ _ c.loop-left.invariant.1 last)
 
 pub returns-in-Idle-clause-memory : goal.returns-in-Idle-clause-memory
 returns-in-Idle-clause-memory g c =
@@ -95,7 +98,10 @@ returns-in-NoMemory-clause-waits g c =
     let C : State → Type 0 = Rested g.N.Nodes.rule (g.N.Nodes.stands c.take_turn.new.over.nodes) (g.M.Names.stands c.take_turn.new.over.names) in
     let last = subst (λ (k : ℕ). CallIs B C g.N.Nodes.rule (λ (setting : Setting). wait_more setting k) (λ (setting : Setting). left_of_wait NoMemory setting) (g.S.Steps.told c.loop-left.steps) (g.S.Steps.told c.take_turn.new.steps) (g.S.Steps.lacks c.loop-left.steps) (g.S.Steps.lacks c.take_turn.new.steps)) same
     (none_found g.N.Nodes.rule (g.N.Nodes.stands c.loop-left.over.nodes) (g.M.Names.stands c.loop-left.over.names) (g.N.Nodes.stands c.take_turn.new.over.nodes) (g.M.Names.stands c.take_turn.new.over.names) rest _ _ _ _ t) in
-    call_then A B C g.N.Nodes.rule (λ (setting : Setting). wait_more setting c.args.turns) (λ (setting : Setting). wait_more setting c.loop-left.left) (λ (setting : Setting). left_of_wait NoMemory setting) _ _ _ _ _ _ c.loop-left.invariant.1.call c.loop-left.invariant.1.none last
+    record {
+      call = call_then A B C g.N.Nodes.rule (λ (setting : Setting). wait_more setting c.args.turns) (λ (setting : Setting). wait_more setting c.loop-left.left) (λ (setting : Setting). left_of_wait NoMemory setting) _ _ _ _ _ _ c.loop-left.invariant.1.call c.loop-left.invariant.1.none last;
+      only = λ e. absurd (false≢true (sym e));
+    }
 
 pub returns-in-NoMemory-clause-memory : goal.returns-in-NoMemory-clause-memory
 returns-in-NoMemory-clause-memory g c =
@@ -109,8 +115,10 @@ pub returns-clause-waits : goal.returns-clause-waits
 returns-clause-waits g c =
     let A : State → Type 0 = Waits g.N.Nodes.rule (g.N.Nodes.stands c.args.over.now.nodes) (g.M.Names.stands c.args.over.now.names) in
     let B : State → Type 0 = Waits g.N.Nodes.rule (g.N.Nodes.stands c.loop-left.over.nodes) (g.M.Names.stands c.loop-left.over.names) in
-    let all = subst (λ (k : ℕ). CallIs A B g.N.Nodes.rule (λ (setting : Setting). wait_more setting c.args.turns) (λ (setting : Setting). wait_more setting k) (g.S.Steps.told c.args.steps.now) (g.S.Steps.told c.loop-left.steps) (g.S.Steps.lacks c.args.steps.now) (g.S.Steps.lacks c.loop-left.steps)) (none_left c.loop-left.left c.loop-left-test.false) c.loop-left.invariant.1.call in
-    call_rested A g.N.Nodes.rule (g.N.Nodes.stands c.loop-left.over.nodes) (g.M.Names.stands c.loop-left.over.names) (λ (setting : Setting). wait_more setting c.args.turns) (λ (setting : Setting) (s : State). (let_go s, Turns)) _ _ _ _ all
+    let C : State → Type 0 = Rested g.N.Nodes.rule (g.N.Nodes.stands c.loop-left.over.nodes) (g.M.Names.stands c.loop-left.over.names) in
+    let all = subst (λ (k : ℕ). Found A B g.N.Nodes.rule (λ (setting : Setting). wait_more setting c.args.turns) (λ (setting : Setting). wait_more setting k) (g.S.Steps.told c.args.steps.now) (g.S.Steps.told c.loop-left.steps) (g.S.Steps.lacks c.args.steps.now) (g.S.Steps.lacks c.loop-left.steps)) (none_left c.loop-left.left c.loop-left-test.false) c.loop-left.invariant.1 in
+    found_only (lacked_at AllMade) A C g.N.Nodes.rule (λ (setting : Setting). wait_more setting c.args.turns) (λ (setting : Setting) (s : State). (let_go s, Turns)) _ _ _ _
+    (found_rested A g.N.Nodes.rule (g.N.Nodes.stands c.loop-left.over.nodes) (g.M.Names.stands c.loop-left.over.names) (λ (setting : Setting). wait_more setting c.args.turns) (λ (setting : Setting) (s : State). (let_go s, Turns)) _ _ _ _ all)
 
 pub returns-clause-memory : goal.returns-clause-memory
 returns-clause-memory g c =

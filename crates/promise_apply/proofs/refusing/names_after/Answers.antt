@@ -9,10 +9,8 @@ returns-clause-names g c w st passed =
     let sum = far.0 in
     let low = far.1 in
     let there = c.len.ensures.names w st in
-    let counts = c.len.ensures.count in
-    let from = c.from.ensures in
     let news = c.news.ensures.count in
     let taken = c.taken_sources.ensures.count in
     let less = c.saturating_sub.ensures in
     let more = c.awaited_more.ensures.more w st in
-    omega (arith, sum, low, there, counts, from, news, taken, less, more)
+    omega (arith, sum, low, there, news, taken, less, more)

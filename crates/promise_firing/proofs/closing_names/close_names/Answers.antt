@@ -15,7 +15,7 @@ closing-init g c =
     let A : World → Type 0 = Both (g.N.Nodes.stands c.args.nodes.now) (g.M.Names.stands c.args.names.now) in
     record {
       does = does_more A (λ w. A w × (length w.names ≤ c.len-left.result)) names_closed (g.S.Steps.told c.args.steps.now)
-          (λ w stands. (stands, let all = c.len-left.ensures.names w stands.1 in let left = c.len-left.ensures.count in omega (arith, all, left)));
+          (λ w stands. (stands, let all = c.len-left.ensures.names w stands.1 in omega (arith, all)));
       lacks = refl;
       kept = keeps_same _ c.requires.sound;
       over = refl;

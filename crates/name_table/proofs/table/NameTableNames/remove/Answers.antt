@@ -1,4 +1,4 @@
-use Rattle.std.proofs.Common.{None, sym, subst, arith}
+use Rattle.std.proofs.Common.{None, rules, sym, subst, arith}
 use Rattle.promise_names.specs.Held.{HasRoot}
 use Rattle.name_table.specs.Entries.{IsRising}
 use Rattle.name_table.specs.Table.{Table, Stands, view_of, root_at}
@@ -26,4 +26,4 @@ pub returns-clause-root : goal.returns-clause-root
 returns-clause-root c =
     let new = c.take.new.entries.items in
     subst (λ (t : Table). HasRoot (root_at t) (root_at (with_entries new (view_of c.self.inside))) c.args.name.0 None) c.self.view_is
-    (remove_root c.args.name.0 new (view_of c.self.inside) c.take.ensures.items)
+    (remove_root c.args.name.0 new (view_of c.self.inside) (search rules) c.take.ensures.items)

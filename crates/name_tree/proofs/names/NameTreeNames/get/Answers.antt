@@ -1,9 +1,10 @@
-use Rattle.std.proofs.Common.{Option, sym, subst, ap, ◌∙◌}
+use Rattle.std.proofs.Common.{Option, rules, sym, subst, ap, ◌∙◌}
 use Rattle.kj_model.specs.World.{held_at}
 use Rattle.promise_names.specs.Held.{SeesHeld, root_of}
 use Rattle.promise_names.specs.declared.names.Held.{Held}
 use Rattle.name_table.specs.Table.{Table, Stands, root_at}
 use Rattle.name_table.proofs.Names.{sees}
+use Rattle.name_table.proofs.Awaited.{root_named}
 use Rattle.name_tree.specs.Kept.{view_of}
 use Rattle.name_tree.specs.Listed.{listed}
 use Rattle.name_tree.proofs.Rises.{held_listed}
@@ -21,4 +22,4 @@ pub returns-clause-root : goal.returns-clause-root
 returns-clause-root c =
     let names = c.self.inside.names in
     let is = held_listed names.tree names.cut.at names.cut.step c.self.invariant.names.split c.args.name.0 in
-    ap root_of (c.get.ensures ∙ sym is) ∙ ap (λ (t : Table). root_at t c.args.name.0) c.self.view_is
+    ap root_of (c.get.ensures ∙ sym is) ∙ sym (root_named (view_of c.self.inside) c.args.name.0 (search rules)) ∙ ap (λ (t : Table). root_at t c.args.name.0) c.self.view_is

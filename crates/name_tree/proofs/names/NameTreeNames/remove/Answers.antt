@@ -1,9 +1,10 @@
-use Rattle.std.proofs.Common.{◌≡◌, ℕ, Option, None, length, sym, subst, ap, ◌∙◌, arith}
+use Rattle.std.proofs.Common.{◌≡◌, ℕ, Option, None, length, rules, sym, subst, ap, ◌∙◌, arith}
 use Rattle.std.specs.Prelude.{IsSome}
 use Rattle.promise_names.specs.Held.{HasRoot, root_of}
 use Rattle.name_table.specs.Entries.{without_entry}
-use Rattle.name_table.specs.Table.{Table, Stands, root_at}
+use Rattle.name_table.specs.Table.{Table, Stands, count_of, root_at}
 use Rattle.name_table.proofs.Calls.{with_entries, remove_stands, remove_root}
+use Rattle.name_table.proofs.Awaited.{root_named}
 use Rattle.name_tree.specs.Kept.{view_of}
 use Rattle.name_tree.specs.Listed.{listed}
 use Rattle.name_tree.specs.Trees.{value_at}
@@ -52,19 +53,21 @@ pub returns-clause-root : goal.returns-clause-root
 returns-clause-root c =
     let new = listed c.remove.new.names.tree in
     subst (λ (t : Table). HasRoot (root_at t) (root_at (with_entries new (view_of c.self.inside))) c.args.name.0 None) c.self.view_is
-    (remove_root c.args.name.0 new (view_of c.self.inside) (list_is c))
+    (remove_root c.args.name.0 new (view_of c.self.inside) (search rules) (list_is c))
 
 pub returns-clause-gone : goal.returns-clause-gone
 returns-clause-gone c some =
     let names = c.self.inside.names in
     let at = held_listed names.tree names.cut.at names.cut.step c.self.invariant.names.split c.args.name.0 in
     let root : root_at (view_of c.self.inside) c.args.name.0 ≡ root_at c.args.self.now c.args.name.0 = ap (λ (t : Table). root_at t c.args.name.0) c.self.view_is in
-    let here : IsSome (root_of (value_at c.args.name.0 names.tree)) = subst (λ (o : Option ℕ). IsSome o) (sym root ∙ ap root_of at) some in
+    let named = root_named (view_of c.self.inside) c.args.name.0 (search rules) in
+    let here : IsSome (root_of (value_at c.args.name.0 names.tree)) = subst (λ (o : Option ℕ). IsSome o) (sym root ∙ named ∙ ap root_of at) some in
     let count = c.remove.ensures.gone (some_held (value_at c.args.name.0 names.tree) here) in
-    omega (arith, count, length_listed names.tree, length_listed c.remove.new.names.tree) ∙ ap (λ (t : Table). length t.entries) c.self.view_is
+    let is = ap count_of c.self.view_is in
+    omega (arith, count, is, length_listed names.tree, length_listed c.remove.new.names.tree)
 
 pub returns-clause-few : goal.returns-clause-few
 returns-clause-few c =
-    let is = ap (λ (t : Table). length t.entries) c.self.view_is in
+    let is = ap count_of c.self.view_is in
     let few = c.remove.ensures.few in
     omega (arith, few, is, length_listed c.self.inside.names.tree, length_listed c.remove.new.names.tree)

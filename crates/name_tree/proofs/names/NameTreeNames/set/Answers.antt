@@ -1,7 +1,7 @@
-use Rattle.std.proofs.Common.{◌≡◌, ◌<◌, Some, length, sym, subst, ap, ◌∙◌, arith}
+use Rattle.std.proofs.Common.{◌≡◌, ◌+◌, ◌<◌, Some, rules, sym, subst, ap, ◌∙◌, arith}
 use Rattle.promise_names.specs.Held.{HasRoot, root_of}
 use Rattle.name_table.specs.Entries.{entered}
-use Rattle.name_table.specs.Table.{Table, Stands, root_at}
+use Rattle.name_table.specs.Table.{Table, Stands, count_of, root_at}
 use Rattle.name_table.proofs.Calls.{with_entries, set_stands, set_root}
 use Rattle.name_tree.specs.Kept.{view_of}
 use Rattle.name_tree.specs.Listed.{listed}
@@ -22,7 +22,7 @@ list_is c =
 
 pub put-self-inside-requires-clause-room : goal.put-self-inside-requires-clause-room
 put-self-inside-requires-clause-room c =
-    let room : length (listed c.self.inside.names.tree) < c.self.inside.limit = subst (λ (t : Table). length t.entries < t.limit) (sym c.self.view_is) c.requires.room in
+    let room : count_of (view_of c.self.inside) < c.self.inside.limit + 1 = subst (λ (t : Table). count_of t < t.limit + 1) (sym c.self.view_is) c.requires.room in
     omega (arith, room, length_listed c.self.inside.names.tree, c.self.invariant.all)
 
 pub invariant_of-self : goal.invariant_of-self
@@ -49,16 +49,16 @@ invariant_of-self c =
 pub returns-clause-stands : goal.returns-clause-stands
 returns-clause-stands c w st listless =
     let inner : Stands (view_of c.self.inside) w = subst (λ (t : Table). Stands t w) (sym c.self.view_is) st in
-    set_stands c.args.name c.args.held (listed c.put-self-inside.new.names.tree) (view_of c.self.inside) w c.requires.kind (list_is (goal.at.returns-clause-stands c).After-put-self-inside) inner
+    set_stands c.args.name c.args.held (listed c.put-self-inside.new.names.tree) (view_of c.self.inside) w (search rules) c.requires.kind (list_is (goal.at.returns-clause-stands c).After-put-self-inside) inner
 
 pub returns-clause-root : goal.returns-clause-root
 returns-clause-root c =
     let new = listed c.put-self-inside.new.names.tree in
     subst (λ (t : Table). HasRoot (root_at t) (root_at (with_entries new (view_of c.self.inside))) c.args.name.0 (root_of (Some c.args.held))) c.self.view_is
-    (set_root c.args.name c.args.held new (view_of c.self.inside) (list_is (goal.at.returns-clause-root c).After-put-self-inside))
+    (set_root c.args.name c.args.held new (view_of c.self.inside) (search rules) (list_is (goal.at.returns-clause-root c).After-put-self-inside))
 
 pub returns-clause-few : goal.returns-clause-few
 returns-clause-few c =
-    let is = ap (λ (t : Table). length t.entries) c.self.view_is in
+    let is = ap count_of c.self.view_is in
     let few = c.put-self-inside.ensures.few in
     omega (arith, few, is, length_listed c.self.inside.names.tree, length_listed c.put-self-inside.new.names.tree)
