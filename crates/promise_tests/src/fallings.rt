@@ -1,74 +1,21 @@
 //! Which nodes would go with trees, worked out by hand.
+use crate::calls::{Call, LIMITS, ROOM, make_all};
+use crate::commands::{branch, fork, later, race, then};
 use crate::tables::{TableEvaluator, evaluator_over_tables};
-use crate::unheard::Unheard;
-use kj_base::{Content, Form, Limits, Link, Name, NodeId, Slot, StepId};
-use promise_commands::Command;
+use crate::teller::Teller;
+use kj_base::{Content, Form, Link, NodeId, Slot, StepId};
 use promise_nodes::Nodes;
 use promise_walks::would_free;
 use std::test::Fail;
 
-const LIMITS: Limits = Limits {
-    slots: 16,
-    names: 16,
-};
+// A step that isn't run in these tests.
+const STEP: StepId = StepId(9);
 
 // A number that no node has in these tests.
 const NOBODY: u64 = 12;
 
-fn name(number: u32) -> Name {
-    Name(number)
-}
-
-fn apply(over: &mut TableEvaluator, command: Command) -> bool {
-    over.ground.apply(&command, &mut Unheard).is_ok()
-}
-
-fn later(over: &mut TableEvaluator, number: u32) -> bool {
-    apply(over, Command::Later { name: name(number) })
-}
-
-fn then(over: &mut TableEvaluator, number: u32, source: u32) -> bool {
-    apply(
-        over,
-        Command::Then {
-            name: name(number),
-            source: name(source),
-            value: Some(StepId(9)),
-            error: None,
-        },
-    )
-}
-
-fn fork(over: &mut TableEvaluator, hub: u32, source: u32) -> bool {
-    apply(
-        over,
-        Command::Fork {
-            hub: name(hub),
-            source: name(source),
-        },
-    )
-}
-
-fn branch(over: &mut TableEvaluator, number: u32, hub: u32) -> bool {
-    apply(
-        over,
-        Command::Branch {
-            name: name(number),
-            hub: name(hub),
-        },
-    )
-}
-
-fn race(over: &mut TableEvaluator, number: u32, left: u32, right: u32) -> bool {
-    apply(
-        over,
-        Command::Race {
-            name: name(number),
-            left: name(left),
-            right: name(right),
-        },
-    )
-}
+// The root of a tree, and the numbers of the nodes that would go with it.
+type Row<'a> = (u64, &'a [u64]);
 
 fn link(number: u64) -> Link {
     Link {
@@ -119,17 +66,29 @@ fn go_just(over: &mut TableEvaluator, root: u64, gone: &[u64]) -> bool {
     !goes(over, root, NOBODY)
 }
 
+// The first root with whose tree other nodes would go than its row says.
+fn first_wrong(over: &mut TableEvaluator, rows: &[Row]) -> Option<u64> {
+    for (root, gone) in rows {
+        if !go_just(over, *root, gone) {
+            return Some(*root);
+        }
+    }
+    None
+}
+
 #[test]
 fn a_tree_goes_with_all_below(rt: HostRuntime) -> Result<(), Fail> {
     let mut over = evaluator_over_tables(rt.alloc(), LIMITS)?;
-    assert!(rt; later(&mut over, 1));
-    assert!(rt; then(&mut over, 2, 1));
-    assert!(rt; then(&mut over, 3, 2));
-    assert!(rt; later(&mut over, 4));
-    assert!(rt; go_just(&mut over, 3, &[1, 2, 3]));
-    assert!(rt; go_just(&mut over, 2, &[1, 2]));
-    assert!(rt; go_just(&mut over, 4, &[4]));
-    assert!(rt; go_just(&mut over, NOBODY, &[]));
+    let mut steps = Teller::new(rt.alloc(), ROOM)?;
+    let calls = [
+        Call::Apply(later(1)),
+        Call::Apply(then(2, 1, STEP)),
+        Call::Apply(then(3, 2, STEP)),
+        Call::Apply(later(4)),
+    ];
+    make_all(&mut over, &calls, &mut steps);
+    let rows: [Row; 4] = [(3, &[1, 2, 3]), (2, &[1, 2]), (4, &[4]), (NOBODY, &[])];
+    assert_eq!(rt; first_wrong(&mut over, &rows), None);
     Ok(())
 }
 
@@ -137,16 +96,20 @@ fn a_tree_goes_with_all_below(rt: HostRuntime) -> Result<(), Fail> {
 #[test]
 fn a_hub_goes_with_its_last_branch(rt: HostRuntime) -> Result<(), Fail> {
     let mut over = evaluator_over_tables(rt.alloc(), LIMITS)?;
-    assert!(rt; later(&mut over, 1));
-    assert!(rt; fork(&mut over, 2, 1));
-    assert!(rt; branch(&mut over, 3, 2));
-    assert!(rt; branch(&mut over, 4, 2));
-    assert!(rt; race(&mut over, 5, 3, 4));
-    assert!(rt; go_just(&mut over, 7, &[3, 4, 5, 6, 7]));
+    let mut steps = Teller::new(rt.alloc(), ROOM)?;
+    let calls = [
+        Call::Apply(later(1)),
+        Call::Apply(fork(2, 1)),
+        Call::Apply(branch(3, 2)),
+        Call::Apply(branch(4, 2)),
+        Call::Apply(race(5, 3, 4)),
+    ];
+    make_all(&mut over, &calls, &mut steps);
+    let named: [Row; 1] = [(7, &[3, 4, 5, 6, 7])];
+    assert_eq!(rt; first_wrong(&mut over, &named), None);
     unname(&mut over, 2);
-    assert!(rt; go_just(&mut over, 7, &[1, 2, 3, 4, 5, 6, 7]));
-    assert!(rt; go_just(&mut over, 5, &[3, 5]));
-    assert!(rt; go_just(&mut over, 6, &[4, 6]));
+    let unnamed: [Row; 3] = [(7, &[1, 2, 3, 4, 5, 6, 7]), (5, &[3, 5]), (6, &[4, 6])];
+    assert_eq!(rt; first_wrong(&mut over, &unnamed), None);
     Ok(())
 }
 
@@ -154,11 +117,15 @@ fn a_hub_goes_with_its_last_branch(rt: HostRuntime) -> Result<(), Fail> {
 #[test]
 fn a_hub_goes_with_the_hub_above(rt: HostRuntime) -> Result<(), Fail> {
     let mut over = evaluator_over_tables(rt.alloc(), LIMITS)?;
-    assert!(rt; later(&mut over, 1));
-    assert!(rt; fork(&mut over, 2, 1));
-    assert!(rt; branch(&mut over, 3, 2));
-    assert!(rt; fork(&mut over, 4, 3));
-    assert!(rt; branch(&mut over, 5, 4));
+    let mut steps = Teller::new(rt.alloc(), ROOM)?;
+    let calls = [
+        Call::Apply(later(1)),
+        Call::Apply(fork(2, 1)),
+        Call::Apply(branch(3, 2)),
+        Call::Apply(fork(4, 3)),
+        Call::Apply(branch(5, 4)),
+    ];
+    make_all(&mut over, &calls, &mut steps);
     assert!(rt; go_just(&mut over, 5, &[5]));
     unname(&mut over, 4);
     assert!(rt; go_just(&mut over, 5, &[3, 4, 5]));

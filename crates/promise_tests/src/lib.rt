@@ -3,6 +3,10 @@
 #![tactic(auto)]
 
 #[cfg(test)]
+mod answers;
+#[cfg(test)]
+mod calls;
+#[cfg(test)]
 mod closings;
 #[cfg(test)]
 mod commands;
@@ -15,9 +19,7 @@ mod teller;
 #[cfg(test)]
 mod turns;
 #[cfg(test)]
-mod unheard;
-#[cfg(test)]
 mod waits;
 
 pub use tables::{TableEvaluator, evaluator_over_tables};
-pub use teller::Teller;
+pub use teller::{Teller, Told};

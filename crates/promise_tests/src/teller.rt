@@ -2,14 +2,27 @@
 ghost use Rattle.promise_commands.specs.Telling.{untold};
 
 use kj_base::{Ending, Exception, Kind, Name, NoMemory, NodeId, Outcome, StepId, Words};
-use promise_commands::{Action, Command, Commands, Steps};
+use promise_commands::{Action, Command, Commands, Refused, Steps};
+use promise_turns::Turned;
 use std::alloc::Global;
 
-/// What was told.
+/// What was told, and what calls answered.
 #[derive(Clone, Copy, Debug, PartialEq, Eq)]
 pub enum Told {
     Ran(NodeId, StepId),
     Freed(NodeId),
+    /// The answer of a command, or of a wait, that was refused.
+    Refused(Refused),
+    /// The answer of a turn, or of a wait that ended as a turn does.
+    Turned(Turned),
+    /// A wait had no more turns.
+    OutOfTurns,
+    /// An outcome's first word.
+    Gave(Option<u64>),
+    /// The code of an outcome's exception.
+    Threw(u32),
+    /// The promise that a step gave.
+    Took(NodeId),
 }
 
 /// The step that gives the word 7.
@@ -39,6 +52,22 @@ impl Teller {
             told: Vec::with_capacity(alloc, room)?,
             lacks: 0,
         })
+    }
+
+    /// One item more, where there is room.
+    pub fn tell(&mut self, told: Told) {
+        let _ = self.told.push(told);
+    }
+
+    /// What an evaluation gave.
+    pub fn tell_outcome(&mut self, outcome: &Outcome) {
+        match outcome {
+            Outcome::Value(words) => {
+                let first = words.as_slice().first().copied();
+                self.tell(Told::Gave(first));
+            }
+            Outcome::Broken(exception) => self.tell(Told::Threw(exception.code)),
+        }
     }
 }
 
@@ -87,7 +116,7 @@ impl Steps for Teller {
             self.lacks = self.lacks.saturating_add(1);
             return Err(NoMemory);
         }
-        let _ = self.told.push(Told::Ran(node, step));
+        self.tell(Told::Ran(node, step));
         Ok(Action {
             commands: commands_of(step),
             ending: ending_of(step),
@@ -95,6 +124,6 @@ impl Steps for Teller {
     }
 
     fn freed(&mut self, node: NodeId) {
-        let _ = self.told.push(Told::Freed(node));
+        self.tell(Told::Freed(node));
     }
 }

@@ -1,217 +1,139 @@
 //! Turns, with what is told in each, worked out by hand.
-ghost use Rattle.std.specs.Prelude.{◌≡◌, []};
-ghost use Rattle.name_table.specs.Table.{trees};
-
-use crate::tables::{TableEvaluator, evaluator_over_tables};
-use crate::teller::{GIVES_PROMISE, GIVES_SEVEN, LACKS, Teller, Told};
-use crate::unheard::Unheard;
-use kj_base::{Limits, Name, NodeId, StepId};
-use promise_commands::{Command, Sources};
-use promise_turns::{Turned, turn};
+use crate::calls::{Call, told_by};
+use crate::commands::{all, chain, detach, later, race, then};
+use crate::teller::{GIVES_PROMISE, GIVES_SEVEN, LACKS, Told};
+use kj_base::NodeId;
+use promise_turns::Turned;
 use std::test::Fail;
 
-const LIMITS: Limits = Limits {
-    slots: 16,
-    names: 8,
-};
+const FIRED: Told = Told::Turned(Turned::Fired);
 
-// How many items are told in these tests at most.
-const ROOM: usize = 16;
+const IDLE: Told = Told::Turned(Turned::Idle);
 
-fn apply(over: &mut TableEvaluator, command: Command) -> bool
-    ensures over { trees over.new.names.over ≡ trees over.old.names.over }
-{
-    over.ground.apply(&command, &mut Unheard).is_ok()
-}
-
-fn later(over: &mut TableEvaluator, name: u32) -> bool
-    ensures over { trees over.new.names.over ≡ trees over.old.names.over }
-{
-    apply(over, Command::Later { name: Name(name) })
-}
-
-fn then(over: &mut TableEvaluator, name: u32, source: u32, step: StepId) -> bool
-    ensures over { trees over.new.names.over ≡ trees over.old.names.over }
-{
-    apply(
-        over,
-        Command::Then {
-            name: Name(name),
-            source: Name(source),
-            value: Some(step),
-            error: None,
-        },
-    )
-}
-
-fn chain(over: &mut TableEvaluator, name: u32, source: u32, step: StepId) -> bool
-    ensures over { trees over.new.names.over ≡ trees over.old.names.over }
-{
-    apply(
-        over,
-        Command::Chain {
-            name: Name(name),
-            source: Name(source),
-            value: Some(step),
-            error: None,
-        },
-    )
-}
-
-fn race(over: &mut TableEvaluator, name: u32, left: u32, right: u32) -> bool
-    ensures over { trees over.new.names.over ≡ trees over.old.names.over }
-{
-    apply(
-        over,
-        Command::Race {
-            name: Name(name),
-            left: Name(left),
-            right: Name(right),
-        },
-    )
-}
-
-fn all(over: &mut TableEvaluator, name: u32, left: u32, right: u32) -> bool
-    ensures over { trees over.new.names.over ≡ trees over.old.names.over }
-{
-    let mut parts = Sources::new();
-    parts.push(Name(left));
-    parts.push(Name(right));
-    apply(
-        over,
-        Command::All {
-            name: Name(name),
-            parts,
-        },
-    )
-}
-
-fn detach(over: &mut TableEvaluator, source: u32) -> bool
-    ensures over { trees over.new.names.over ≡ trees over.old.names.over }
-{
-    apply(
-        over,
-        Command::Detach {
-            source: Name(source),
-        },
-    )
-}
-
-// What a turn answers, and nothing else of it, so that tests are checked without its clauses.
-fn turned(over: &mut TableEvaluator, steps: &mut Teller) -> Turned
-    requires none_over { trees over.old.names.over ≡ [] }
-    ensures over { trees over.new.names.over ≡ [] }
-{
-    turn(over, steps)
+fn freed(node: u64) -> Told {
+    Told::Freed(NodeId(node))
 }
 
 #[test]
 fn tasks_fire_in_their_order(rt: HostRuntime) -> Result<(), Fail> {
-    let mut over = evaluator_over_tables(rt.alloc(), LIMITS)?;
-    let mut steps = Teller::new(rt.alloc(), ROOM)?;
-    assert!(rt; later(&mut over, 1));
-    assert!(rt; then(&mut over, 2, 1, GIVES_SEVEN));
-    assert!(rt; detach(&mut over, 2));
-    assert!(rt; later(&mut over, 3));
-    assert!(rt; detach(&mut over, 3));
-    assert_eq!(rt; turned(&mut over, &mut steps), Turned::Fired);
-    let told = [
-        Told::Freed(NodeId(1)),
-        Told::Ran(NodeId(2), GIVES_SEVEN),
-        Told::Freed(NodeId(2)),
-        Told::Freed(NodeId(3)),
-        Told::Freed(NodeId(4)),
-        Told::Freed(NodeId(5)),
+    let calls = [
+        Call::Apply(later(1)),
+        Call::Apply(then(2, 1, GIVES_SEVEN)),
+        Call::Apply(detach(2)),
+        Call::Apply(later(3)),
+        Call::Apply(detach(3)),
+        Call::Turn,
+        Call::Turn,
+        Call::Turn,
     ];
-    assert_eq!(rt; steps.told.as_slice(), &told[..4]);
-    assert_eq!(rt; turned(&mut over, &mut steps), Turned::Fired);
-    assert_eq!(rt; steps.told.as_slice(), told.as_slice());
-    assert_eq!(rt; turned(&mut over, &mut steps), Turned::Idle);
+    let told = [
+        freed(1),
+        Told::Ran(NodeId(2), GIVES_SEVEN),
+        freed(2),
+        freed(3),
+        FIRED,
+        freed(4),
+        freed(5),
+        FIRED,
+        IDLE,
+    ];
+    assert_eq!(rt; told_by(rt.alloc(), &calls)?.as_slice(), told.as_slice());
     Ok(())
 }
 
 #[test]
 fn a_chain_gives_its_place(rt: HostRuntime) -> Result<(), Fail> {
-    let mut over = evaluator_over_tables(rt.alloc(), LIMITS)?;
-    let mut steps = Teller::new(rt.alloc(), ROOM)?;
-    assert!(rt; later(&mut over, 1));
-    assert!(rt; chain(&mut over, 2, 1, GIVES_PROMISE));
-    assert!(rt; detach(&mut over, 2));
-    assert_eq!(rt; turned(&mut over, &mut steps), Turned::Fired);
-    let told = [
-        Told::Freed(NodeId(1)),
-        Told::Ran(NodeId(2), GIVES_PROMISE),
-        Told::Freed(NodeId(2)),
-        Told::Freed(NodeId(3)),
-        Told::Freed(NodeId(5)),
-        Told::Freed(NodeId(4)),
+    let calls = [
+        Call::Apply(later(1)),
+        Call::Apply(chain(2, 1, GIVES_PROMISE)),
+        Call::Apply(detach(2)),
+        Call::Turn,
+        Call::Turn,
+        Call::Turn,
     ];
-    assert_eq!(rt; steps.told.as_slice(), &told[..4]);
-    assert_eq!(rt; turned(&mut over, &mut steps), Turned::Fired);
-    assert_eq!(rt; steps.told.as_slice(), told.as_slice());
-    assert_eq!(rt; turned(&mut over, &mut steps), Turned::Idle);
+    let told = [
+        freed(1),
+        Told::Ran(NodeId(2), GIVES_PROMISE),
+        freed(2),
+        freed(3),
+        FIRED,
+        freed(5),
+        freed(4),
+        FIRED,
+        IDLE,
+    ];
+    assert_eq!(rt; told_by(rt.alloc(), &calls)?.as_slice(), told.as_slice());
     Ok(())
 }
 
 #[test]
 fn a_race_frees_the_other_side(rt: HostRuntime) -> Result<(), Fail> {
-    let mut over = evaluator_over_tables(rt.alloc(), LIMITS)?;
-    let mut steps = Teller::new(rt.alloc(), ROOM)?;
-    assert!(rt; later(&mut over, 1));
-    assert!(rt; later(&mut over, 2));
-    assert!(rt; race(&mut over, 3, 1, 2));
-    assert!(rt; detach(&mut over, 3));
-    assert_eq!(rt; turned(&mut over, &mut steps), Turned::Fired);
-    let told = [
-        Told::Freed(NodeId(2)),
-        Told::Freed(NodeId(1)),
-        Told::Freed(NodeId(3)),
-        Told::Freed(NodeId(4)),
-        Told::Freed(NodeId(5)),
-        Told::Freed(NodeId(6)),
+    let calls = [
+        Call::Apply(later(1)),
+        Call::Apply(later(2)),
+        Call::Apply(race(3, 1, 2)),
+        Call::Apply(detach(3)),
+        Call::Turn,
+        Call::Turn,
+        Call::Turn,
     ];
-    assert_eq!(rt; steps.told.as_slice(), &told[..1]);
-    assert_eq!(rt; turned(&mut over, &mut steps), Turned::Fired);
-    assert_eq!(rt; steps.told.as_slice(), told.as_slice());
-    assert_eq!(rt; turned(&mut over, &mut steps), Turned::Idle);
+    let told = [
+        freed(2),
+        FIRED,
+        freed(1),
+        freed(3),
+        freed(4),
+        freed(5),
+        freed(6),
+        FIRED,
+        IDLE,
+    ];
+    assert_eq!(rt; told_by(rt.alloc(), &calls)?.as_slice(), told.as_slice());
     Ok(())
 }
 
 #[test]
 fn an_all_waits_for_each_side(rt: HostRuntime) -> Result<(), Fail> {
-    let mut over = evaluator_over_tables(rt.alloc(), LIMITS)?;
-    let mut steps = Teller::new(rt.alloc(), ROOM)?;
-    assert!(rt; later(&mut over, 1));
-    assert!(rt; later(&mut over, 2));
-    assert!(rt; all(&mut over, 3, 1, 2));
-    assert!(rt; detach(&mut over, 3));
-    assert_eq!(rt; turned(&mut over, &mut steps), Turned::Fired);
-    assert_eq!(rt; turned(&mut over, &mut steps), Turned::Fired);
-    assert_eq!(rt; steps.told.len(), 0);
-    assert_eq!(rt; turned(&mut over, &mut steps), Turned::Fired);
-    let told = [
-        Told::Freed(NodeId(1)),
-        Told::Freed(NodeId(2)),
-        Told::Freed(NodeId(3)),
-        Told::Freed(NodeId(4)),
-        Told::Freed(NodeId(5)),
-        Told::Freed(NodeId(6)),
+    let calls = [
+        Call::Apply(later(1)),
+        Call::Apply(later(2)),
+        Call::Apply(all(3, 1, 2)),
+        Call::Apply(detach(3)),
+        Call::Turn,
+        Call::Turn,
+        Call::Turn,
+        Call::Turn,
     ];
-    assert_eq!(rt; steps.told.as_slice(), told.as_slice());
-    assert_eq!(rt; turned(&mut over, &mut steps), Turned::Idle);
+    let told = [
+        FIRED,
+        FIRED,
+        freed(1),
+        freed(2),
+        freed(3),
+        freed(4),
+        freed(5),
+        freed(6),
+        FIRED,
+        IDLE,
+    ];
+    assert_eq!(rt; told_by(rt.alloc(), &calls)?.as_slice(), told.as_slice());
     Ok(())
 }
 
 #[test]
 fn a_stopped_loop_makes_no_turn(rt: HostRuntime) -> Result<(), Fail> {
-    let mut over = evaluator_over_tables(rt.alloc(), LIMITS)?;
-    let mut steps = Teller::new(rt.alloc(), ROOM)?;
-    assert!(rt; later(&mut over, 1));
-    assert!(rt; then(&mut over, 2, 1, LACKS));
-    assert!(rt; detach(&mut over, 2));
-    assert_eq!(rt; turned(&mut over, &mut steps), Turned::NoMemory);
-    assert_eq!(rt; steps.lacks, 1);
-    assert_eq!(rt; turned(&mut over, &mut steps), Turned::Stopped);
-    assert_eq!(rt; steps.told.as_slice(), [Told::Freed(NodeId(1))].as_slice());
+    let calls = [
+        Call::Apply(later(1)),
+        Call::Apply(then(2, 1, LACKS)),
+        Call::Apply(detach(2)),
+        Call::Turn,
+        Call::Turn,
+    ];
+    let told = [
+        freed(1),
+        Told::Turned(Turned::NoMemory),
+        Told::Turned(Turned::Stopped),
+    ];
+    assert_eq!(rt; told_by(rt.alloc(), &calls)?.as_slice(), told.as_slice());
     Ok(())
 }

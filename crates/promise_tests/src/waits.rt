@@ -1,33 +1,23 @@
 //! Waits, with what is told in each, worked out by hand.
+use crate::calls::{LIMITS, ROOM};
+use crate::commands::{later, pair, then};
 use crate::teller::{GIVES_SEVEN, LACKS, Teller, Told};
 use event_list::EventList;
-use kj_base::{Limits, Name, NoMemory, NodeId, Outcome, StepId};
+use kj_base::{Name, NoMemory, NodeId};
 use loop_core::{Loop, LoopOver, Waited};
 use node_table::NodeTable;
 use promise_commands::{Command, Refused};
+use promise_turns::Turned;
 use std::alloc::Global;
 use std::test::Fail;
 
-const LIMITS: Limits = Limits {
-    slots: 16,
-    names: 8,
-};
-
-// How many items are told in these tests at most.
-const ROOM: usize = 16;
-
 type TableLoop = Loop<NodeTable, EventList>;
 
-// How a wait ended: with an outcome's first word, or else.
-#[derive(Clone, Copy, Debug, PartialEq, Eq)]
-enum End {
-    Gave(Option<u64>),
-    Threw,
-    Idle,
-    Turns,
-    Refused(Refused),
-    NoMemory,
-    Stopped,
+// A wait: a name, and for how many turns.
+type Wait = (u32, u32);
+
+fn freed(node: u64) -> Told {
+    Told::Freed(NodeId(node))
 }
 
 fn new_loop(alloc: Global) -> Result<TableLoop, NoMemory> {
@@ -36,89 +26,91 @@ fn new_loop(alloc: Global) -> Result<TableLoop, NoMemory> {
     LoopOver::new(alloc, LIMITS, store, queue)
 }
 
-fn later(over: &mut TableLoop, name: u32, steps: &mut Teller) -> bool {
-    over.apply(Command::Later { name: Name(name) }, steps)
-        .is_ok()
-}
-
-fn then(over: &mut TableLoop, name: u32, source: u32, step: StepId, steps: &mut Teller) -> bool {
-    let command = Command::Then {
-        name: Name(name),
-        source: Name(source),
-        value: Some(step),
-        error: None,
-    };
-    over.apply(command, steps).is_ok()
-}
-
-fn pair(over: &mut TableLoop, name: u32, cell: u32, steps: &mut Teller) -> bool {
-    let command = Command::Pair {
-        name: Name(name),
-        cell: Name(cell),
-    };
-    over.apply(command, steps).is_ok()
-}
-
-fn end_of(waited: Waited) -> End {
-    match waited {
-        Waited::Done(Outcome::Value(words)) => End::Gave(words.as_slice().first().copied()),
-        Waited::Done(Outcome::Broken(_)) => End::Threw,
-        Waited::Idle => End::Idle,
-        Waited::Turns => End::Turns,
-        Waited::Refused(refused) => End::Refused(refused),
-        Waited::NoMemory => End::NoMemory,
-        Waited::Stopped => End::Stopped,
+fn apply(over: &mut TableLoop, command: Command, steps: &mut Teller) {
+    if let Err(refused) = over.apply(command, steps) {
+        steps.tell(Told::Refused(refused));
     }
 }
 
-fn wait(over: &mut TableLoop, name: u32, turns: u32, steps: &mut Teller) -> End {
-    end_of(over.wait(Name(name), turns, steps))
+fn wait(over: &mut TableLoop, name: u32, turns: u32, steps: &mut Teller) {
+    match over.wait(Name(name), turns, steps) {
+        Waited::Done(outcome) => steps.tell_outcome(&outcome),
+        Waited::Idle => steps.tell(Told::Turned(Turned::Idle)),
+        Waited::Turns => steps.tell(Told::OutOfTurns),
+        Waited::Refused(refused) => steps.tell(Told::Refused(refused)),
+        Waited::NoMemory => steps.tell(Told::Turned(Turned::NoMemory)),
+        Waited::Stopped => steps.tell(Told::Turned(Turned::Stopped)),
+    }
+}
+
+// What two commands, these waits and the closing of a new loop tell.
+fn told_by(
+    alloc: Global,
+    first: Command,
+    second: Option<Command>,
+    waits: &[Wait],
+) -> Result<Vec<Told>, NoMemory> {
+    let mut over = new_loop(alloc)?;
+    let mut steps = Teller::new(alloc, ROOM)?;
+    apply(&mut over, first, &mut steps);
+    if let Some(command) = second {
+        apply(&mut over, command, &mut steps);
+    }
+    for (name, turns) in waits {
+        wait(&mut over, *name, *turns, &mut steps);
+    }
+    over.close(&mut steps);
+    Ok(steps.told)
 }
 
 #[test]
 fn a_wait_gives_the_outcome(rt: HostRuntime) -> Result<(), Fail> {
-    let mut over = new_loop(rt.alloc())?;
-    let mut steps = Teller::new(rt.alloc(), ROOM)?;
-    assert!(rt; later(&mut over, 1, &mut steps));
-    assert!(rt; then(&mut over, 2, 1, GIVES_SEVEN, &mut steps));
-    assert_eq!(rt; wait(&mut over, 2, 5, &mut steps), End::Gave(Some(7)));
+    let second = Some(then(2, 1, GIVES_SEVEN));
     let told = [
-        Told::Freed(NodeId(1)),
+        freed(1),
         Told::Ran(NodeId(2), GIVES_SEVEN),
-        Told::Freed(NodeId(2)),
+        freed(2),
+        Told::Gave(Some(7)),
+        Told::Refused(Refused::Unknown(Name(2))),
     ];
-    assert_eq!(rt; steps.told.as_slice(), told.as_slice());
-    let unknown = Refused::Unknown(Name(2));
-    assert_eq!(rt; wait(&mut over, 2, 5, &mut steps), End::Refused(unknown));
+    let waits = [(2, 5), (2, 5)];
+    assert_eq!(rt;
+        told_by(rt.alloc(), later(1), second, &waits)?.as_slice(),
+        told.as_slice()
+    );
     Ok(())
 }
 
 #[test]
 fn a_wait_that_ends_gives_the_name_back(rt: HostRuntime) -> Result<(), Fail> {
-    let mut over = new_loop(rt.alloc())?;
-    let mut steps = Teller::new(rt.alloc(), ROOM)?;
-    assert!(rt; pair(&mut over, 1, 2, &mut steps));
-    assert_eq!(rt; wait(&mut over, 1, 0, &mut steps), End::Turns);
-    assert_eq!(rt; wait(&mut over, 1, 5, &mut steps), End::Idle);
-    assert_eq!(rt; wait(&mut over, 1, 5, &mut steps), End::Idle);
-    let wrong = Refused::WrongKind(Name(2));
-    assert_eq!(rt; wait(&mut over, 2, 5, &mut steps), End::Refused(wrong));
-    assert_eq!(rt; steps.told.len(), 0);
-    over.close(&mut steps);
-    assert_eq!(rt; steps.told.as_slice(), [Told::Freed(NodeId(1))].as_slice());
+    let told = [
+        Told::OutOfTurns,
+        Told::Turned(Turned::Idle),
+        Told::Turned(Turned::Idle),
+        Told::Refused(Refused::WrongKind(Name(2))),
+        freed(1),
+    ];
+    let waits = [(1, 0), (1, 5), (1, 5), (2, 5)];
+    assert_eq!(rt;
+        told_by(rt.alloc(), pair(1, 2), None, &waits)?.as_slice(),
+        told.as_slice()
+    );
     Ok(())
 }
 
 #[test]
 fn a_wait_without_memory_stops_the_loop(rt: HostRuntime) -> Result<(), Fail> {
-    let mut over = new_loop(rt.alloc())?;
-    let mut steps = Teller::new(rt.alloc(), ROOM)?;
-    assert!(rt; later(&mut over, 1, &mut steps));
-    assert!(rt; then(&mut over, 2, 1, LACKS, &mut steps));
-    assert_eq!(rt; wait(&mut over, 2, 5, &mut steps), End::NoMemory);
-    assert_eq!(rt; wait(&mut over, 2, 5, &mut steps), End::Stopped);
-    over.close(&mut steps);
-    let told = [Told::Freed(NodeId(1)), Told::Freed(NodeId(2))];
-    assert_eq!(rt; steps.told.as_slice(), told.as_slice());
+    let second = Some(then(2, 1, LACKS));
+    let told = [
+        freed(1),
+        Told::Turned(Turned::NoMemory),
+        Told::Turned(Turned::Stopped),
+        freed(2),
+    ];
+    let waits = [(2, 5), (2, 5)];
+    assert_eq!(rt;
+        told_by(rt.alloc(), later(1), second, &waits)?.as_slice(),
+        told.as_slice()
+    );
     Ok(())
 }
