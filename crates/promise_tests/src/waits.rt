@@ -104,7 +104,8 @@ fn a_wait_that_ends_gives_the_name_back(rt: HostRuntime) -> Result<(), Fail> {
     let wrong = Refused::WrongKind(Name(2));
     assert_eq!(rt; wait(&mut over, 2, 5, &mut steps), End::Refused(wrong));
     assert_eq!(rt; steps.told.len(), 0);
-    over.close(&mut steps);
+    let freed = over.close(&mut steps);
+    assert_eq!(rt; freed.as_slice(), [NodeId(1)].as_slice());
     assert_eq!(rt; steps.told.as_slice(), [Told::Freed(NodeId(1))].as_slice());
     Ok(())
 }
@@ -117,7 +118,8 @@ fn a_wait_without_memory_stops_the_loop(rt: HostRuntime) -> Result<(), Fail> {
     assert!(rt; then(&mut over, 2, 1, LACKS, &mut steps));
     assert_eq!(rt; wait(&mut over, 2, 5, &mut steps), End::NoMemory);
     assert_eq!(rt; wait(&mut over, 2, 5, &mut steps), End::Stopped);
-    over.close(&mut steps);
+    let freed = over.close(&mut steps);
+    assert_eq!(rt; freed.as_slice(), [NodeId(1), NodeId(2)].as_slice());
     let told = [Told::Freed(NodeId(1)), Told::Freed(NodeId(2))];
     assert_eq!(rt; steps.told.as_slice(), told.as_slice());
     Ok(())
