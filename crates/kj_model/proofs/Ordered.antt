@@ -118,7 +118,7 @@ pub in_order : (guard : Guard) (w : World) (k n : ℕ) → StandApart n w.nodes 
 in_order guard w k n st = node_ordered guard w (tree_numbers k w.nodes n) k (λ j hub u. st.elsewhere j k hub u) [] [] n (λ m i. i) (st.tree k) (λ m i. refl)
 
 -- what was freed is told
-frees_map : (ns : List ℕ) → frees_in (map Free ns) ≡ ns
+pub frees_map : (ns : List ℕ) → frees_in (map Free ns) ≡ ns
 frees_map [] = refl
 frees_map (n ∷ ns) = ap (λ ms. n ∷ ms) (frees_map ns)
 

@@ -1,12 +1,12 @@
 -- How many nodes live, by the trees of the roots.
-use Rattle.std.proofs.Common.{zero, suc, ◌≡◌, ◌⊎◌, inl, inr, ℕ, ◌+◌, ◌*◌, ◌≤◌, List, [], ◌∷◌, ◌++◌, length, Bool, true, false, cond, Option, None, Some, arith, refl, sym, ap, ◌∙◌, subst, ◌&&◌, ◌==◌}
-use Rattle.std.specs.Prelude.{nat_eq, nat_lt, is_some, flat_map}
+use Rattle.std.proofs.Common.{zero, suc, ◌≡◌, ◌⊎◌, inl, inr, ℕ, ◌+◌, ◌*◌, ◌≤◌, List, [], ◌∷◌, ◌++◌, length, drop, Bool, true, false, cond, Option, None, Some, arith, refl, sym, ap, ◌∙◌, subst, ◌&&◌, ◌==◌}
+use Rattle.std.specs.Prelude.{nat_eq, is_some, flat_map}
 use Rattle.std.proofs.lemmas.Bool.{false≢true}
 use Rattle.std.proofs.lemmas.Bool.Decides.{nat_tests}
 use Rattle.kj_model.specs.Nodes.{Entry, Form, form_at, parts_of, parts_at, parts_found, is_in}
 use Rattle.kj_model.specs.Changes.{frees_in}
 use Rattle.kj_model.specs.World.{World, State, depth_of}
-use Rattle.kj_model.specs.Calls.{hubs_of}
+use Rattle.kj_model.specs.Calls.{close, hubs_of}
 use Rattle.kj_model.specs.Trees.{tree_numbers, AreApart}
 use Rattle.kj_model.specs.Owned.{numbers, tree_roots}
 use Rattle.kj_ownership.specs.Owners.{is_live, owns, is_hub_form}
@@ -18,7 +18,9 @@ use Rattle.kj_ownership.proofs.Flat.{few, few_live}
 use Rattle.kj_ownership.proofs.Moves.{number_live}
 use Rattle.kj_ownership.proofs.Stays.{owner_live, out_times, in_times}
 use Rattle.kj_ownership.proofs.Climb.{climb_apart, climb_live}
+use Rattle.kj_ownership.proofs.Sides.{numbers_apart}
 use Rattle.kj_ownership.proofs.Closing.{hubs_listed, total_none}
+use Rattle.kj_ownership.proofs.Cancels.{close_answers}
 
 in_flat : (f : ℕ → List ℕ) (ps : List ℕ) (p m : ℕ) → is_in p ps ≡ true → is_in m (f p) ≡ true → is_in m (flat_map f ps) ≡ true
 in_flat f [] p m i h = absurd (in_none p i)
@@ -102,12 +104,26 @@ apart_numbers (x ∷ xs) h = (false_by (is_in x xs) (λ i. two (times x xs) (in_
 
 pub live_are_few : (s : State) → Owned s → length (numbers s.world.nodes) ≤ length (flat_map (tree_numbers (depth_of s.world) s.world.nodes) (all_roots s.world))
 live_are_few s o = few (numbers s.world.nodes) (flat_map (tree_numbers (depth_of s.world) s.world.nodes) (all_roots s.world))
-    (apart_numbers (numbers s.world.nodes) (λ m. (let a = o.recorded m in most (times m (numbers s.world.nodes)) (times m (frees_in s.past)) (nat_lt 0 m && nat_lt m s.world.next) a)))
+    (apart_numbers (numbers s.world.nodes) (numbers_apart s o.recorded))
     (λ m i. in_a_tree s m o (number_live m s.world.nodes i))
+
+-- the closing frees no more nodes than there are slots
+pub close_few : (s : State) → Owned s → s.world.awaited ≡ None → length (frees_in (drop (length s.past) (close s).past)) ≤ s.world.limits.slots
+close_few s o waits =
+    let ns = frees_in (drop (length s.past) (close s).past) in
+    let times_is = close_answers s o waits in
+    let l = few_live s.world.nodes ns
+        (apart_numbers ns (λ m. subst (λ (k : ℕ). k ≤ 1) (sym (times_is m)) (numbers_apart s o.recorded m)))
+        (λ m i. number_live m s.world.nodes (among m ns (numbers s.world.nodes) (is_in m (numbers s.world.nodes)) refl (times_is m) i)) in
+    let room = o.room in
+    omega (arith, l, room)
   where
-    most : (a r : ℕ) (b : Bool) → a + r ≡ one_if b → a ≤ 1
-    most a r true e = omega (arith, e)
-    most a r false e = omega (arith, e)
+    none : (a b : ℕ) → 1 ≤ a → a ≡ b → b ≡ 0 → ⊥
+    none a b x y z = omega (arith, x, y, z)
+
+    among : (m : ℕ) (xs ys : List ℕ) (b : Bool) → is_in m ys ≡ b → times m xs ≡ times m ys → is_in m xs ≡ true → is_in m ys ≡ true
+    among m xs ys true e same i = e
+    among m xs ys false e same i = absurd (none (times m xs) (times m ys) (in_times m xs i) same (out_times m ys e))
 
 -- each tree has at most k nodes: a host's bound
 length_app : (xs ys : List ℕ) → length (xs ++ ys) ≡ length xs + length ys

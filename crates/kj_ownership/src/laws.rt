@@ -68,13 +68,16 @@ pub fn free_keeps_what_worlds_keep()
         → Standing (root ∷ loose) out [] s → Standing loose out [] (free guard root s) }
 {}
 
-/// Closing a world that keeps what worlds keep, and in which no tree is awaited, frees each number that was built once and no other; and it answers the live numbers, each once.
+/// Closing a world that keeps what worlds keep, and in which no tree is awaited, frees each number that was built once and
+/// no other; and it answers the live numbers, each once, which are no more than there are slots.
 pub fn close_frees_each_number_once()
     ensures once { (s : State) → Owned s → s.world.awaited ≡ None → (m : ℕ)
         → times m (frees_in (close s).past) ≡ one_if (nat_lt 0 m && nat_lt m s.world.next) }
     ensures answer { (s : State) → Owned s → s.world.awaited ≡ None
         → (m : ℕ) → times m (frees_in (drop (length s.past) (close s).past))
         ≡ times m (numbers s.world.nodes) }
+    ensures few { (s : State) → Owned s → s.world.awaited ≡ None
+        → length (frees_in (drop (length s.past) (close s).past)) ≤ s.world.limits.slots }
     ensures none { (s : State) → Owned s → s.world.awaited ≡ None → (m : ℕ)
         → is_live m (close s).world.nodes ≡ false }
     ensures owned { (s : State) → Owned s → s.world.awaited ≡ None → Owned (close s) }

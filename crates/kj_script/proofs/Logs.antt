@@ -2,7 +2,7 @@
 use Rattle.std.proofs.Common.{◌≡◌, ◌⊎◌, inl, inr, ◌∙◌, ◌<◌, ◌≤◌, ◌+◌, ℕ, zero, suc, Result, Ok, Err, OnOk, List, [], ◌∷◌, ◌++◌, Option, None, Some, is_some, map, length, drop, get_or, refl, sym, ap, subst, append-nil, arith}
 use Rattle.std.proofs.lemmas.List.{append_assoc}
 use Rattle.kj_base.specs.Counts.{HasLacked}
-use Rattle.kj_base.specs.Record.{Item}
+use Rattle.kj_base.specs.Record.{Item, Free}
 use Rattle.promise_commands.specs.Telling.{Telling}
 use Rattle.kj_model.specs.World.{State, Setting, Asked, Ended}
 use Rattle.kj_model.specs.Apply.{Refused}
@@ -120,10 +120,10 @@ command_refused bodies New told old new l r number refused none more p =
     (line_printed bodies New told old new l r.0 (RefusedAt number refused) more p.shows))
 
 -- the closing ends the log
-pub closing_printed : (bodies : List Body) (Old : State → Type 0) (a b c : Telling) (old new : List ℕ) (l : Logged) → Closes Old a b → Prints b c old new → Shows bodies Old a old l → new ≡ log_text (log_closed l)
-closing_printed bodies Old a b c old new l closes prints shows =
-    let p = prints bodies l.state.past closes.items a shows.follows closes.told in
-    grown l (close l.state) closes.items old new (closes.closed l.state shows.stands) shows.printed p.text
+pub closing_printed : (bodies : List Body) (Old : State → Type 0) (freed : List ℕ) (a b c : Telling) (old new : List ℕ) (l : Logged) → Closes Old freed a b → Prints b c old new → Shows bodies Old a old l → new ≡ log_text (log_closed l)
+closing_printed bodies Old freed a b c old new l closes prints shows =
+    let p = prints bodies l.state.past (map Free freed) a shows.follows closes.told in
+    grown l (close l.state) (map Free freed) old new (closes.closed l.state shows.stands).past_is shows.printed p.text
 
 -- what follows from what holds at success holds there
 pub on_ok : {A E : Type 0} (r : Result A E) (P Q : Type 0) → OnOk r P → (P → Q) → OnOk r Q

@@ -1,10 +1,10 @@
 -- The calls of a loop, against the definitions.
-use Rattle.std.specs.Prelude.{◌≡◌, ◌&&◌, ℕ, List, ◌++◌, Option, None, Bool, false, nat_lt, is_some}
+use Rattle.std.specs.Prelude.{◌≡◌, ◌&&◌, ℕ, List, ◌++◌, Option, None, Bool, false, map, nat_lt, is_some}
 use Rattle.kj_base.specs.Counts.{HasLacked}
-use Rattle.kj_base.specs.Record.{Item}
+use Rattle.kj_base.specs.Record.{Item, Free}
 use Rattle.promise_commands.specs.Telling.{Telling, Hears}
 use Rattle.kj_model.specs.Changes.{frees_in}
-use Rattle.kj_model.specs.Calls.{close}
+use Rattle.kj_model.specs.Calls.{CallClose, Closed, call, close}
 use Rattle.kj_model.specs.Framed.{times}
 use Rattle.kj_model.specs.Owned.{numbers}
 use Rattle.kj_model.specs.World.{State, Setting}
@@ -35,14 +35,18 @@ pub record CallLacks {E : Type 0} (lacks : Bool) (Old New : State → Type 0) (r
   pub call : CallIs Old New rule before after told_before told_after lacks_before lacks_after
   pub only : lacks ≡ false → call.missing ≡ None
 
--- each number that was built was freed once in the whole record, and each live one once by these items
-pub record FreesEachOnce (s : State) (items : List Item) : Type 0 where
-  pub once : (n : ℕ) → times n (frees_in (s.past ++ items)) ≡ one_if (nat_lt 0 n && nat_lt n s.world.next)
-  pub live : (n : ℕ) → times n (frees_in items) ≡ times n (numbers s.world.nodes)
+-- each number that was built was freed once in the whole record, and each live one is one of these, once
+pub record FreesEachOnce (s : State) (freed : List ℕ) : Type 0 where
+  pub once : (n : ℕ) → times n (frees_in (s.past ++ map Free freed)) ≡ one_if (nat_lt 0 n && nat_lt n s.world.next)
+  pub live : (n : ℕ) → times n freed ≡ times n (numbers s.world.nodes)
 
--- the closing told just these items
-pub record Closes (Old : State → Type 0) (told_before told_after : Telling) : Type 0 where
-  pub items : List Item
-  pub told : Hears told_before items told_after
-  pub closed : (s : State) → Old s → (close s).past ≡ s.past ++ items
-  pub freed : (s : State) → Old s → FreesEachOnce s items
+-- the closing of this state freed these numbers, in order, and they are its reply
+pub record IsClosed (s : State) (freed : List ℕ) : Type 0 where
+  pub past_is : (close s).past ≡ s.past ++ map Free freed
+  pub reply : (setting : Setting) → (call setting CallClose s).1 ≡ Closed freed
+  pub each_once : FreesEachOnce s freed
+
+-- the closing freed these numbers, in order, and just they were told
+pub record Closes (Old : State → Type 0) (freed : List ℕ) (told_before told_after : Telling) : Type 0 where
+  pub told : Hears told_before (map Free freed) told_after
+  pub closed : (s : State) → Old s → IsClosed s freed

@@ -1,3 +1,4 @@
 pub mod Loops
 pub mod Calls
 pub mod Waits
+pub mod Frees

@@ -3,6 +3,7 @@
 
 mod applying;
 mod closing;
+mod frees;
 mod holding;
 mod over;
 mod running;

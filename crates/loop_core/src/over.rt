@@ -9,6 +9,7 @@ ghost use Rattle.promise_commands.specs.Commands.{command_of};
 ghost use Rattle.promise_commands.specs.Refusals.{refusal_of};
 ghost use Rattle.promise_turns.specs.Turns.{lacked_memory, turned_as};
 ghost use Rattle.loop_core.specs.Calls.{CallIs, Closes};
+ghost use Rattle.loop_core.specs.Frees.{numbers_of};
 ghost use Rattle.promise_graph.specs.Standing.{StandsFor};
 ghost use Rattle.name_table.specs.Table.{Stands as NamesStand};
 ghost use Rattle.loop_core.specs.Loops.{StandsAt, TakesNoMore};
@@ -19,7 +20,7 @@ use crate::closing::close_over;
 use crate::running::{run_over, turn_over};
 use crate::waited::Waited;
 use crate::waits::wait_over;
-use kj_base::{Limits, MAX_SLOTS, Name, NoMemory, Queue, Store};
+use kj_base::{Limits, MAX_SLOTS, Name, NoMemory, NodeId, Queue, Store};
 use name_tree::NameTree;
 use promise_commands::{Command, Refused, Steps};
 use promise_eval::{Evaluator, Ground};
@@ -108,15 +109,14 @@ impl<N: Nodes + Drop, M: Names + Drop> LoopOver<N, M> {
     }
 
     /// The loop goes (kj/async.h, the destructor of an `EventLoop`) with all that it holds, and no step runs: what is left
-    /// over, what each name holds by rising name, the tasks of its own set newest first, then hubs. The frees are told in
-    /// this order.
-    pub fn close<S: Steps>(self, steps: &mut S)
+    /// over, what each name holds by rising name, the tasks of its own set newest first, then hubs. The numbers of the
+    /// nodes that are freed, in this order, in memory that `new` took; the steps are told each of these frees.
+    pub fn close<S: Steps>(self, steps: &mut S) -> Vec<NodeId>
         ensures closes { Closes (StandsAt N.rule (N.stands self.nodes) (M.stands self.names))
-            (S.told steps.old) (S.told steps.new) }
+            (numbers_of result.items) (S.told steps.old) (S.told steps.new) }
         ensures lacks { S.lacks steps.new ≡ S.lacks steps.old }
     {
-        let mut over = self.over;
-        close_over(&mut over, steps);
+        close_over(self.over, steps)
     }
 }
 

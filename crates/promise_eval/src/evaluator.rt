@@ -1,5 +1,5 @@
 //! The evaluation of a loop's trees.
-ghost use Rattle.std.specs.Prelude.{◌≡◌, ◌≤◌, IfOk, is_err};
+ghost use Rattle.std.specs.Prelude.{◌≡◌, ◌≤◌, [], IfOk, is_err, vec_capacity};
 ghost use Rattle.kj_base.specs.Counts.{HasLacked};
 ghost use Rattle.kj_model.specs.Value.{value, value_link};
 ghost use Rattle.promise_nodes.specs.Kept.{OnlyRises};
@@ -7,7 +7,7 @@ ghost use Rattle.promise_walks.specs.Walks.{Both};
 ghost use Rattle.promise_walks.specs.Values.{Gives, GivesRoot, gave, gave_given};
 
 use crate::ground::Ground;
-use kj_base::{Link, NoMemory, Outcome};
+use kj_base::{Link, NoMemory, NodeId, Outcome};
 use promise_commands::Steps;
 use promise_names::Names;
 use promise_nodes::Nodes;
@@ -15,32 +15,50 @@ use promise_walks::{Given, Pending, evaluate, evaluate_link};
 use std::alloc::Global;
 use std::marker::Model;
 
-/// Evaluates the trees of a loop, by a stack of its own.
+/// Evaluates the trees of a loop, by a stack of its own, and keeps the memory that the loop's closing takes.
 #[derive(Drop)]
 pub struct Evaluator<N: Nodes + Drop, M: Names + Drop> {
     pub ground: Ground<N, M>,
     pending: Vec<Pending>,
+    // Empty, with room for the number of each slot's node.
+    freed: Vec<NodeId>,
 }
 
 impl<N: Nodes + Drop, M: Names + Drop> Model for Evaluator<N, M> {
-    ghost use Rattle.std.specs.Prelude.{◌≤◌, ◌+◌, vec_capacity};
+    ghost use Rattle.std.specs.Prelude.{vec_capacity};
+    ghost use Rattle.promise_eval.specs.Ready.{HasMemory};
     ghost use Rattle.promise_eval.specs.declared.keepers.Keepers.{Keepers};
 
     ghost Value = { Keepers N M };
 
     ghost view = { λ e. e.ground };
 
-    ghost invariant = { λ e. N.slots e.ground.nodes + 1 ≤ vec_capacity e.pending };
+    ghost invariant = { λ e. HasMemory (N.slots e.ground.nodes) (vec_capacity e.pending)
+        (vec_capacity e.freed) e.freed.items };
 }
 
 impl<N: Nodes + Drop, M: Names + Drop> Evaluator<N, M> {
-    /// Over this ground. This takes the memory of the stack.
+    /// Over this ground. This takes the memory of the stack, and that of the closing.
     pub fn new(alloc: Global, ground: Ground<N, M>) -> Result<Evaluator<N, M>, NoMemory>
         ensures { IfOk result (λ e. e ≡ ground) }
     {
-        let depth = ground.nodes().slots() as usize + 1;
-        let pending = Vec::with_capacity(alloc, depth)?;
-        Ok(Evaluator { ground, pending })
+        let slots = ground.nodes().slots() as usize;
+        let pending = Vec::with_capacity(alloc, slots + 1)?;
+        let freed = Vec::with_capacity(alloc, slots)?;
+        Ok(Evaluator {
+            ground,
+            pending,
+            freed,
+        })
+    }
+
+    /// The ground, and an empty list that has room for the numbers of as many nodes as there are slots.
+    pub fn into_parts(self) -> (Ground<N, M>, Vec<NodeId>)
+        ensures ground { result.0 ≡ self }
+        ensures empty { result.1.items ≡ [] }
+        ensures room { N.slots self.nodes ≤ vec_capacity result.1 }
+    {
+        (self.ground, self.freed)
     }
 
     /// The outcome of a ready tree, with the steps that run for it; want of memory where a step found none.

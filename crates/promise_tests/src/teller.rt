@@ -23,6 +23,8 @@ pub enum Told {
     Threw(u32),
     /// The promise that a step gave.
     Took(NodeId),
+    /// One of the numbers that a closing answers.
+    Answered(NodeId),
 }
 
 /// The step that gives the word 7.

@@ -20,6 +20,10 @@ fn freed(node: u64) -> Told {
     Told::Freed(NodeId(node))
 }
 
+fn answered(node: u64) -> Told {
+    Told::Answered(NodeId(node))
+}
+
 fn new_loop(alloc: Global) -> Result<TableLoop, NoMemory> {
     let store = NodeTable::new(alloc, LIMITS.slots)?;
     let queue = EventList::new(alloc, LIMITS.slots + 1)?;
@@ -43,7 +47,7 @@ fn wait(over: &mut TableLoop, name: u32, turns: u32, steps: &mut Teller) {
     }
 }
 
-// What two commands, these waits and the closing of a new loop tell.
+// What two commands, these waits and the closing of a new loop tell, and what the closing answers.
 fn told_by(
     alloc: Global,
     first: Command,
@@ -59,7 +63,9 @@ fn told_by(
     for (name, turns) in waits {
         wait(&mut over, *name, *turns, &mut steps);
     }
-    over.close(&mut steps);
+    for node in over.close(&mut steps).as_slice() {
+        steps.tell(Told::Answered(*node));
+    }
     Ok(steps.told)
 }
 
@@ -89,6 +95,7 @@ fn a_wait_that_ends_gives_the_name_back(rt: HostRuntime) -> Result<(), Fail> {
         Told::Turned(Turned::Idle),
         Told::Refused(Refused::WrongKind(Name(2))),
         freed(1),
+        answered(1),
     ];
     let waits = [(1, 0), (1, 5), (1, 5), (2, 5)];
     assert_eq!(rt;
@@ -106,6 +113,7 @@ fn a_wait_without_memory_stops_the_loop(rt: HostRuntime) -> Result<(), Fail> {
         Told::Turned(Turned::NoMemory),
         Told::Turned(Turned::Stopped),
         freed(2),
+        answered(2),
     ];
     let waits = [(2, 5), (2, 5)];
     assert_eq!(rt;
