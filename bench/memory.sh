@@ -3,11 +3,7 @@
 # but the same limits: lines outside bodies, the shortest bodies in order and out of order, and lines that mean nothing.
 # The script's own share is what is left behind the empty script's peak and the log's octets, by the size of the script.
 set -eu
-top=$(cd "$(dirname "$0")/.." && pwd)
-program=$top/crates/kj_serve/out/kj_serve
-[ -x "$program" ] || { echo 'run rt ci first: nothing is proved here yet' >&2; exit 1; }
-work=$(mktemp -d)
-trap 'rm -rf "$work"' EXIT
+. "$(dirname "$0")/program.sh"
 most=16777216
 
 # limits, the lines given over and over, and a remark up to the most octets

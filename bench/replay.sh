@@ -3,11 +3,7 @@
 # together. Prints seconds, microseconds a request of time and of processor time, and how many times as long as copying
 # the same octets it takes.
 set -eu
-top=$(cd "$(dirname "$0")/.." && pwd)
-program=$top/crates/kj_serve/out/kj_serve
-[ -x "$program" ] || { echo 'run rt ci first: nothing is proved here yet' >&2; exit 1; }
-work=$(mktemp -d)
-trap 'rm -rf "$work"' EXIT
+. "$(dirname "$0")/program.sh"
 TIMEFORMAT='%U %S'
 
 # nanoseconds of the best of three runs

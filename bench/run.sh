@@ -3,11 +3,7 @@
 # detached, and then 1,000 turns. The last line is 250,000 promises, each with its own turn at once. Prints seconds,
 # and microseconds a turn.
 set -eu
-top=$(cd "$(dirname "$0")/.." && pwd)
-program=$top/crates/kj_serve/out/kj_serve
-[ -x "$program" ] || { echo 'run rt ci first: nothing is proved here yet' >&2; exit 1; }
-work=$(mktemp -d)
-trap 'rm -rf "$work"' EXIT
+. "$(dirname "$0")/program.sh"
 
 script() {
   awk -v lines="$1" 'BEGIN {

@@ -47,17 +47,15 @@ fn wait(over: &mut TableLoop, name: u32, turns: u32, steps: &mut Teller) {
     }
 }
 
-// What two commands, these waits and the closing of a new loop tell, and what the closing answers.
-fn told_by(
+// What these commands, waits and the closing of a new loop tell, and what the closing answers.
+fn told_by<const N: usize>(
     alloc: Global,
-    first: Command,
-    second: Option<Command>,
+    commands: [Command; N],
     waits: &[Wait],
 ) -> Result<Vec<Told>, NoMemory> {
     let mut over = new_loop(alloc)?;
     let mut steps = Teller::new(alloc, ROOM)?;
-    apply(&mut over, first, &mut steps);
-    if let Some(command) = second {
+    for command in commands {
         apply(&mut over, command, &mut steps);
     }
     for (name, turns) in waits {
@@ -71,7 +69,7 @@ fn told_by(
 
 #[test]
 fn a_wait_gives_the_outcome(rt: HostRuntime) -> Result<(), Fail> {
-    let second = Some(then(2, 1, GIVES_SEVEN));
+    let commands = [later(1), then(2, 1, GIVES_SEVEN)];
     let told = [
         freed(1),
         Told::Ran(NodeId(2), GIVES_SEVEN),
@@ -81,7 +79,7 @@ fn a_wait_gives_the_outcome(rt: HostRuntime) -> Result<(), Fail> {
     ];
     let waits = [(2, 5), (2, 5)];
     assert_eq!(rt;
-        told_by(rt.alloc(), later(1), second, &waits)?.as_slice(),
+        told_by(rt.alloc(), commands, &waits)?.as_slice(),
         told.as_slice()
     );
     Ok(())
@@ -99,7 +97,7 @@ fn a_wait_that_ends_gives_the_name_back(rt: HostRuntime) -> Result<(), Fail> {
     ];
     let waits = [(1, 0), (1, 5), (1, 5), (2, 5)];
     assert_eq!(rt;
-        told_by(rt.alloc(), pair(1, 2), None, &waits)?.as_slice(),
+        told_by(rt.alloc(), [pair(1, 2)], &waits)?.as_slice(),
         told.as_slice()
     );
     Ok(())
@@ -107,7 +105,7 @@ fn a_wait_that_ends_gives_the_name_back(rt: HostRuntime) -> Result<(), Fail> {
 
 #[test]
 fn a_wait_without_memory_stops_the_loop(rt: HostRuntime) -> Result<(), Fail> {
-    let second = Some(then(2, 1, LACKS));
+    let commands = [later(1), then(2, 1, LACKS)];
     let told = [
         freed(1),
         Told::Turned(Turned::NoMemory),
@@ -117,7 +115,7 @@ fn a_wait_without_memory_stops_the_loop(rt: HostRuntime) -> Result<(), Fail> {
     ];
     let waits = [(2, 5), (2, 5)];
     assert_eq!(rt;
-        told_by(rt.alloc(), later(1), second, &waits)?.as_slice(),
+        told_by(rt.alloc(), commands, &waits)?.as_slice(),
         told.as_slice()
     );
     Ok(())
