@@ -45,7 +45,8 @@ fn new_loop(alloc: Global, limits: Limits) -> Result<Loop<NodeArena, EventLinks>
     requires arenas { limits.slots % 8 ≡ 0 }
     ensures { IfOk result
         (λ l. StandsAt places_fit (StandsFor (node_of l.nodes.store) l.nodes.queue.events
-        (ArenasStand l.nodes.store) l.nodes.marks) (NamesStand l.names) (new_state limits)) }
+        (ArenasStand l.nodes.store) l.nodes.marks l.nodes.memberships) (NamesStand l.names)
+        (new_state limits)) }
 {
     let store = NodeArena::new(alloc, limits.slots)?;
     let queue = EventLinks::new(alloc, limits.slots + 1)?;

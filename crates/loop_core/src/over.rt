@@ -140,7 +140,7 @@ impl<St: Store + Drop, Q: Queue + Drop> LoopOver<Graph<St, Q>, NameTree> {
         requires no_spots { St.stands store [] }
         ensures stands { IfOk result (λ l. TakesNoMore St.rule → StandsAt St.rule
             (StandsFor (St.node_at l.nodes.store) (Q.events l.nodes.queue)
-            (St.stands l.nodes.store) l.nodes.marks) (NamesStand l.names)
+            (St.stands l.nodes.store) l.nodes.marks l.nodes.memberships) (NamesStand l.names)
             (new_state limits)) }
     {
         let graph = Graph::new(alloc, limits, store, queue)?;

@@ -1,7 +1,5 @@
--- What building and listening leave of a world.
+-- What listening leaves of a world, and names.
 use Rattle.std.proofs.Common.{ℕ, Option, None, Some, Bool, true, false, refl}
-use Rattle.std.specs.Prelude.{nat_lt}
-use Rattle.kj_base.specs.Places.{Spot, spot_of}
 use Rattle.kj_base.specs.Queue.{Way}
 use Rattle.kj_base.specs.declared.outcomes.Outcome.{Outcome}
 use Rattle.kj_model.specs.Nodes.{Form, Cell, form_at}
@@ -9,31 +7,14 @@ use Rattle.kj_model.specs.World.{World, Held, depth_of}
 use Rattle.kj_model.specs.Changes.{named, unnamed, arm_listener, put}
 use Rattle.kj_model.specs.Effects.{with_detached}
 use Rattle.kj_model.specs.Listening.{listened, listened_if, listened_way, listener, ready, is_last, settled, settled_form}
-use Rattle.kj_model.specs.Places.{built, numbered, placed_over, placed_if}
 use Rattle.promise_nodes.specs.Kept.{SameNodes, SameNames}
-
-built_if : (b : Bool) (x : Spot) (form : Form) (w : World) → SameNames w (numbered form (placed_if b x w))
-built_if true x form w = refl
-built_if false x form w = refl
-
-built_over : (o : Option Spot) (form : Form) (w : World) → SameNames w (numbered form (placed_over o w))
-built_over None form w = refl
-built_over (Some x) form w = built_if (nat_lt 0 x.place) x form w
-
--- names stay when a node is built
-pub built_names : (before : Option ℕ) (form : Form) (w : World) → SameNames w (built before form w)
-built_names None form w = refl
-built_names (Some n) form w = built_over (spot_of n w.spots) form w
-
-armed_names : (way : Way) (by : Option ℕ) (w : World) → SameNames w (arm_listener way by w)
-armed_names way None w = refl
-armed_names way (Some n) w = refl
+use Rattle.promise_nodes.proofs.Same.{armed_names}
 
 listened_case : (b : Bool) (n : ℕ) (w : World) → SameNames w (listened_if b n w)
 listened_case true n w = armed_names (listened_way (is_last (depth_of w) w.nodes n)) (listener n w) w
 listened_case false n w = refl
 
--- and when a tree gets a listener
+-- names stay when a tree gets a listener
 pub listened_names : (n : ℕ) (w : World) → SameNames w (listened n w)
 listened_names n w = listened_case (ready (depth_of w) w.nodes n) n w
 

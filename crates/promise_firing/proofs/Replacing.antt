@@ -1,11 +1,14 @@
--- The roots that names promise, when one took the place of another.
-use Rattle.std.proofs.Common.{◌≡◌, ◌⊎◌, inl, inr, ℕ, ◌<◌, [], ◌∷◌, Option, None, Some, Bool, true, false, refl, sym, ap, ◌∙◌, arith, subst}
-use Rattle.std.specs.Prelude.{nat_eq}
+-- The roots that names promise, and lists, when one root took the place of another.
+use Rattle.std.proofs.Common.{◌≡◌, ◌⊎◌, inl, inr, ℕ, ◌<◌, List, [], ◌∷◌, map, Option, None, Some, Bool, true, false, refl, sym, ap, ◌∙◌, arith, subst}
+use Rattle.std.specs.Prelude.{nat_eq, ◌==◌}
 use Rattle.std.proofs.lemmas.Bool.{false≢true}
 use Rattle.std.proofs.lemmas.Bool.Decides.{nat_tests}
 use Rattle.kj_model.specs.Nodes.{is_in, renamed, renamed_if}
+use Rattle.kj_model.specs.World.{World, Named, Held, Promise, CellOf, AskCell, HubOf, Group, Canceler, RequestOf, held_at}
+use Rattle.kj_model.specs.Fire.{held_renamed, named_renamed}
 use Rattle.promise_nodes.specs.Kept.{OnlyFalls, RisesIn}
-use Rattle.promise_names.specs.Held.{AreFree, root_renamed}
+use Rattle.promise_nodes.specs.Members.{AreLists, lists_in, members_of}
+use Rattle.promise_names.specs.Held.{AreFree, root_renamed, roots_replaced}
 use Rattle.promise_firing.specs.Ground.{IsLoose}
 
 some_same : (a b : ℕ) → ◌≡◌ {A = Option ℕ} (Some a) (Some b) → a ≡ b
@@ -63,3 +66,25 @@ free_replaced roots roots' taken taken' next old new free loose renames falls ri
   built = λ name root h. built_by roots taken next old new name root free loose (before old new (roots name) root (sym (renames name) ∙ h));
   apart = λ name other root h k. apart_by roots taken next old new name other root free loose (before old new (roots name) root (sym (renames name) ∙ h)) (before old new (roots other) root (sym (renames other) ∙ k));
 }
+
+renamed_members : (old new : ℕ) (h : Held) → members_of (Some (held_renamed old new h)) ≡ members_of (Some h)
+renamed_members old new (Promise root) = refl
+renamed_members old new (CellOf cell) = refl
+renamed_members old new (AskCell cell is_taken) = refl
+renamed_members old new (HubOf hub) = refl
+renamed_members old new (Group error tasks empty) = refl
+renamed_members old new (Canceler wraps) = refl
+renamed_members old new (RequestOf node) = refl
+
+replaced_case : (b : Bool) (old new name : ℕ) (y : Named) (ys : List Named) → (y.name == name) ≡ b → members_of (held_at name (map (named_renamed old new) ys)) ≡ members_of (held_at name ys)
+    → members_of (held_at name (map (named_renamed old new) (y ∷ ys))) ≡ members_of (held_at name (y ∷ ys))
+replaced_case true old new name y ys e h = rw e (renamed_members old new y.held)
+replaced_case false old new name y ys e h = rw e h
+
+replaced_members : (old new name : ℕ) (ys : List Named) → members_of (held_at name (map (named_renamed old new) ys)) ≡ members_of (held_at name ys)
+replaced_members old new name [] = refl
+replaced_members old new name (y ∷ ys) = replaced_case (y.name == name) old new name y ys refl (replaced_members old new name ys)
+
+-- and lists stay
+pub replaced_lists : (old new : ℕ) (w : World) → AreLists (roots_replaced old new w) (lists_in w)
+replaced_lists old new w list = replaced_members old new list w.names

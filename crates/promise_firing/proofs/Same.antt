@@ -7,20 +7,17 @@ use Rattle.kj_base.specs.declared.outcomes.Outcome.{Outcome}
 use Rattle.kj_base.specs.Queue.{Way, DepthFirst}
 use Rattle.kj_model.specs.Nodes.{Form, Ready, Later, Last, Cell, Branch, Then, Chain, Eager, Wrap, Hub, Side, Race, Join, Task, Request, form_at, kept_form, with_form, is_in}
 use Rattle.kj_model.specs.World.{World, depth_of}
-use Rattle.kj_model.specs.Changes.{arm_listener, put}
+use Rattle.kj_model.specs.Changes.{put}
 use Rattle.kj_model.specs.Listening.{listened, listened_if, listened_way, listener, ready, is_last, announced, join_ready}
 use Rattle.kj_model.specs.Fire.{keeps, kept_at, branches_of, each_announced, branches_announced, announced_if, fast_announced}
 use Rattle.kj_model.proofs.Spared.{form_put_same, form_put_other}
 use Rattle.promise_nodes.specs.Kept.{SameNames, IsLive}
+use Rattle.promise_nodes.proofs.Same.{armed_names}
 use Rattle.promise_firing.specs.Outliving.{BranchesLive}
 
 -- one change after another
 pub names_then : (w v u : World) → SameNames w v → SameNames v u → SameNames w u
 names_then w v u a b = b ∙ ap (λ (x : World). record x { queue = u.queue; nodes = u.nodes; detached = u.detached; firing = u.firing; next = u.next; spots = u.spots; next_key = u.next_key }) a
-
-armed_names : (way : Way) (by : Option ℕ) (w : World) → SameNames w (arm_listener way by w)
-armed_names way None w = refl
-armed_names way (Some n) w = refl
 
 -- names stay when a listener is armed
 pub announced_names : (way : Way) (n : ℕ) (w : World) → SameNames w (announced way n w)

@@ -21,7 +21,7 @@ use Rattle.promise_graph.specs.declared.fields.Marks.{Marks}
 use Rattle.promise_graph.specs.Slots.{number_of, number_at, Finds, slot_of}
 use Rattle.promise_graph.specs.Rings.{IsOut, AreApart}
 use Rattle.promise_graph.specs.Kept.{AreNumbered, is_plain, is_plain_node, is_plain_form, hub_of}
-use Rattle.promise_graph.specs.Standing.{HasNodes, HasRing, Stands, StandsFor}
+use Rattle.promise_graph.specs.Standing.{HasNodes, HasRing, Stands, NodesStand}
 use Rattle.promise_graph.proofs.Lists.{some_same, is_some_of, equal_not, of_all}
 use Rattle.promise_graph.proofs.Numbered.{slot_is}
 use Rattle.promise_graph.proofs.Falling.{plain_out}
@@ -124,7 +124,7 @@ module _ (at : ℕ → Option Node) (m : Marks) (k : AreNumbered at m) where
         by_slot (Some s) live = let node = node_of (at s) hub live in by_kind s node.0 (is_hub (shown [] node.0.form)) live node.1 refl
 
 -- a graph whose marks are kept stands for the worlds that its marks show
-pub stands_for : (at : ℕ → Option Node) (q : Events) (sp : List Spot → Type 0) (m : Marks) (w : World) → AreNumbered at m → Stands at q sp m w → StandsFor at q sp m w
+pub stands_for : (at : ℕ → Option Node) (q : Events) (sp : List Spot → Type 0) (m : Marks) (w : World) → AreNumbered at m → Stands at q sp m w → NodesStand at q sp m w
 stands_for at q sp m w k st = record {
   stands = st;
   plain = plain_follows at m k w.nodes st.seen.nodes;

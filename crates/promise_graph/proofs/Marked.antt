@@ -12,7 +12,7 @@ use Rattle.promise_graph.specs.declared.fields.Marks.{Marks}
 use Rattle.promise_graph.specs.declared.visits.Visits.{Visits}
 use Rattle.promise_graph.specs.Slots.{number_at, slot_of}
 use Rattle.promise_graph.specs.Kept.{AreNumbered}
-use Rattle.promise_graph.specs.Standing.{Stands}
+use Rattle.promise_graph.specs.Standing.{NodesStand, Stands}
 use Rattle.promise_graph.specs.Visits.{Whole, IsNoted, mark_at, mark_of}
 use Rattle.promise_graph.proofs.Lists.{some_same}
 use Rattle.promise_graph.proofs.Numbered.{slot_live, slot_out}
@@ -21,6 +21,10 @@ use Rattle.promise_graph.proofs.Numbered.{slot_live, slot_out}
 pub stands_seen : {St Q : Type 0} (at : St → ℕ → Option Node) (events : Q → Events) (sp : St → List Spot → Type 0) (a b : Whole St Q) (w : World) → a ≡ b
     → Stands (at b.store) (events b.queue) (sp b.store) b.marks w → Stands (at a.store) (events a.queue) (sp a.store) a.marks w
 stands_seen at events sp a b w e st = rw e st
+
+pub nodes_seen : {St Q : Type 0} (at : St → ℕ → Option Node) (events : Q → Events) (sp : St → List Spot → Type 0) (a b : Whole St Q) (w : World) → a ≡ b
+    → NodesStand (at b.store) (events b.queue) (sp b.store) b.marks w → NodesStand (at a.store) (events a.queue) (sp a.store) a.marks w
+nodes_seen at events sp a b w e st = rw e st
 
 -- what is seen has the same marks
 pub mark_seen : (St Q : Type 0) (a b : Whole St Q) (n : ℕ) → a ≡ b → mark_of a.visits a.marks n ≡ mark_of b.visits b.marks n

@@ -8,18 +8,32 @@ use Rattle.kj_base.specs.declared.nodes.Node.{Node}
 use Rattle.kj_model.specs.Nodes.{is_in}
 use Rattle.kj_model.specs.World.{World}
 use Rattle.promise_nodes.specs.Kept.{SameNodes}
+use Rattle.promise_nodes.specs.Members.{AreLists, lists_in}
 use Rattle.promise_graph.specs.declared.fields.Marks.{Marks}
 use Rattle.promise_graph.specs.declared.memberships.Memberships.{Memberships}
 use Rattle.promise_graph.specs.Members.{is_given}
 use Rattle.promise_graph.specs.Memberships.{HasLists}
 use Rattle.promise_graph.specs.Rows.{row_at, room_of}
-use Rattle.promise_graph.specs.Standing.{Stands, StandsFor, stands_named}
+use Rattle.promise_graph.specs.Standing.{Stands, NodesStand, StandsFor, stands_named}
 
--- names don't matter
-pub names_free : (at : ℕ → Option Node) (q : Events) (sp : List Spot → Type 0) (m : Marks) (w v : World) → SameNodes w v → StandsFor at q sp m w → StandsFor at q sp m v
-names_free at q sp m w v same st =
+-- lists don't depend on the function that tells them
+pub same_lists : (m : Marks) (x : Memberships) (lists others : ℕ → List ℕ) → ((list : ℕ) → others list ≡ lists list) → HasLists m x lists → HasLists m x others
+same_lists m x lists others same h = record {
+  named = λ list. ap (λ (ns : List ℕ). filter (is_given m.numbers.items) (reverse ns)) (same list) ∙ h.named list;
+  live = h.live;
+  below = λ list n i. h.below list n (sym (ap (is_in n) (same list)) ∙ i);
+  apart = λ n list other i j. h.apart n list other (sym (ap (is_in n) (same list)) ∙ i) (sym (ap (is_in n) (same other)) ∙ j);
+}
+
+-- names don't matter to nodes
+pub nodes_free : (at : ℕ → Option Node) (q : Events) (sp : List Spot → Type 0) (m : Marks) (w v : World) → SameNodes w v → NodesStand at q sp m w → NodesStand at q sp m v
+nodes_free at q sp m w v same st =
     let st' = stands_named at q sp m w v same st.stands in
-    subst (λ (u : World). StandsFor at q sp m u) (sym same) (record { stands = subst (λ (u : World). Stands at q sp m u) same st'; plain = st.plain; tasks = st.tasks; hubs = st.hubs; few = st.few })
+    subst (λ (u : World). NodesStand at q sp m u) (sym same) (record { stands = subst (λ (u : World). Stands at q sp m u) same st'; plain = st.plain; tasks = st.tasks; hubs = st.hubs; few = st.few })
+
+-- names don't matter, as long as lists are the same
+pub names_free : (at : ℕ → Option Node) (q : Events) (sp : List Spot → Type 0) (m : Marks) (x : Memberships) (w v : World) → SameNodes w v → AreLists v (lists_in w) → StandsFor at q sp m x w → StandsFor at q sp m x v
+names_free at q sp m x w v same lists st = record { nodes = nodes_free at q sp m w v same st.nodes; lists = same_lists m x (lists_in w) (lists_in v) lists st.lists }
 
 -- rows may be left out
 pub left_out : (room : List Row → Bool) (m : Marks) → ((front : List Row) (left : Row) (back : List Row) → IsTrue (room (front ++ left ∷ back)) → IsTrue (room (front ++ back)))
@@ -34,12 +48,3 @@ pub one_of_two : (room : List Row → Bool) (m : Marks) → ((front : List Row) 
 one_of_two room m law front before back h =
     subst (λ (rows : List Row). IsTrue (room rows)) (sym (map-append (row_at m) front (row before 1 ∷ back)))
     (law (map (row_at m) front) (row_at m (row before 2)).before (map (row_at m) back) (subst (λ (rows : List Row). IsTrue (room rows)) (map-append (row_at m) front (row before 2 ∷ back)) h))
-
--- lists don't depend on the function that tells them
-pub same_lists : (m : Marks) (x : Memberships) (lists others : ℕ → List ℕ) → ((list : ℕ) → others list ≡ lists list) → HasLists m x lists → HasLists m x others
-same_lists m x lists others same h = record {
-  named = λ list. ap (λ (ns : List ℕ). filter (is_given m.numbers.items) (reverse ns)) (same list) ∙ h.named list;
-  live = h.live;
-  below = λ list n i. h.below list n (sym (ap (is_in n) (same list)) ∙ i);
-  apart = λ n list other i j. h.apart n list other (sym (ap (is_in n) (same list)) ∙ i) (sym (ap (is_in n) (same other)) ∙ j);
-}

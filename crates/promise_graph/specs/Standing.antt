@@ -12,9 +12,12 @@ use Rattle.kj_model.specs.Fire.{branches_of}
 use Rattle.kj_model.specs.Calls.{hubs_of}
 use Rattle.promise_nodes.specs.Shown.{shown, link_number}
 use Rattle.promise_nodes.specs.Once.{AreOnce}
+use Rattle.promise_nodes.specs.Members.{lists_in}
 use Rattle.promise_nodes.specs.Kept.{SameNodes, IsPlain, awaited_root, is_hub}
 use Rattle.promise_graph.specs.declared.fields.Marks.{Marks}
 use Rattle.promise_graph.specs.declared.fields.Rings.{Rings}
+use Rattle.promise_graph.specs.declared.memberships.Memberships.{Memberships}
+use Rattle.promise_graph.specs.Memberships.{HasLists}
 use Rattle.promise_graph.specs.Slots.{number_at, IsAbsent}
 use Rattle.promise_graph.specs.Rings.{next_at, prev_at, IsRing, AreApart}
 use Rattle.promise_graph.specs.Kept.{form_parts, hub_of, taker_at, is_plain, IsArmable}
@@ -94,13 +97,18 @@ pub record Stands (at : ℕ → Option Node) (q : Events) (sp : List Spot → Ty
   pub seen : IsSeen at q sp m w
   pub owned : AreOwned at m
 
--- a graph stands for this world; and what follows where its marks are kept
-pub record StandsFor (at : ℕ → Option Node) (q : Events) (sp : List Spot → Type 0) (m : Marks) (w : World) : Type 0 where
+-- the same; and what follows where the marks are kept
+pub record NodesStand (at : ℕ → Option Node) (q : Events) (sp : List Spot → Type 0) (m : Marks) (w : World) : Type 0 where
   pub stands : Stands at q sp m w
   pub plain : (n : ℕ) → is_plain at m n ≡ true → IsPlain (form_at n w.nodes)
   pub tasks : (n : ℕ) → is_in n w.detached ≡ true → n < m.next
   pub hubs : (n : ℕ) → is_in n (hubs_of w.nodes) ≡ true → n < m.next
   pub few : (hub : ℕ) → length (branches_of (form_at hub w.nodes)) ≤ m.slots
+
+-- a graph with these members of lists stands for this world
+pub record StandsFor (at : ℕ → Option Node) (q : Events) (sp : List Spot → Type 0) (m : Marks) (x : Memberships) (w : World) : Type 0 where
+  pub nodes : NodesStand at q sp m w
+  pub lists : HasLists m x (lists_in w)
 
 -- names don't matter
 pub stands_named : (at : ℕ → Option Node) (q : Events) (sp : List Spot → Type 0) (m : Marks) (w v : World) → SameNodes w v → Stands at q sp m w → Stands at q sp m v

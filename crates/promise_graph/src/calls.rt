@@ -14,12 +14,9 @@ impl<St: Store + Drop, Q: Queue + Drop> Nodes for Graph<St, Q> {
     ghost use Rattle.promise_graph.specs.Standing.{StandsFor};
     ghost use Rattle.promise_graph.specs.Rows.{room_of};
     ghost use Rattle.promise_graph.specs.Visits.{mark_of};
-    ghost use Rattle.promise_graph.specs.Memberships.{HasLists};
 
     ghost stands = { λ g w. StandsFor (St.node_at g.store) (Q.events g.queue) (St.stands g.store)
-        g.marks w };
-
-    ghost has_lists = { λ g lists. HasLists g.marks g.memberships lists };
+        g.marks g.memberships w };
 
     ghost slots = { λ g. g.marks.slots };
 
@@ -158,17 +155,18 @@ impl<St: Store + Drop, Q: Queue + Drop> Nodes for Graph<St, Q> {
 
     ghost use Rattle.promise_graph.specs.Laws.{names_free, left_out, one_of_two};
 
-    ghost names_free = { λ g w v same st. names_free _ _ _ _ w v same st };
+    ghost names_free = { λ g w v same lists st.
+        names_free _ _ _ _ _ w v same lists st };
 
-    ghost plain_is = { λ g w n st h. st.plain n h };
+    ghost plain_is = { λ g w n st h. st.nodes.plain n h };
 
-    ghost tasks_built = { λ g w n st h. st.tasks n h };
+    ghost tasks_built = { λ g w n st h. st.nodes.tasks n h };
 
-    ghost once = { λ g w st. st.stands.seen.nodes.once };
+    ghost once = { λ g w st. st.nodes.stands.seen.nodes.once };
 
-    ghost hubs_built = { λ g w n st h. st.hubs n h };
+    ghost hubs_built = { λ g w n st h. st.nodes.hubs n h };
 
-    ghost few_branches = { λ g w hub st. st.few hub };
+    ghost few_branches = { λ g w hub st. st.nodes.few hub };
 
     ghost left_out = { λ g front left back h. left_out (St.room g.store) g.marks
         (St.left_out g.store) front left back h };
@@ -176,7 +174,7 @@ impl<St: Store + Drop, Q: Queue + Drop> Nodes for Graph<St, Q> {
     ghost one_of_two = { λ g front before back h. one_of_two (St.room g.store) g.marks
         (St.one_of_two g.store) front before back h };
 
-    ghost next_is = { λ g w st. st.stands.seen.next_is };
+    ghost next_is = { λ g w st. st.nodes.stands.seen.next_is };
 
-    ghost slots_are = { λ g w st. st.stands.seen.slots_are };
+    ghost slots_are = { λ g w st. st.nodes.stands.seen.slots_are };
 }

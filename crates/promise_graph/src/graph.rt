@@ -4,7 +4,6 @@ ghost use Rattle.kj_base.specs.Queue.{no_events};
 ghost use Rattle.kj_base.specs.declared.numbers.Limits.{Limits};
 ghost use Rattle.kj_model.specs.World.{new_world};
 ghost use Rattle.promise_graph.specs.Standing.{StandsFor};
-ghost use Rattle.promise_graph.specs.Memberships.{HasLists};
 
 use crate::fields::Fields;
 use crate::making::new_marks;
@@ -47,10 +46,9 @@ impl<St: Store + Drop, Q: Queue + Drop> Graph<St, Q> {
         requires no_events { Q.events queue ≡ no_events }
         requires no_spots { St.stands store [] }
         ensures stands { IfOk result (λ g. (all : Limits) → all.slots ≡ limits.slots → StandsFor
-            (St.node_at g.store) (Q.events g.queue) (St.stands g.store) g.marks
+            (St.node_at g.store) (Q.events g.queue) (St.stands g.store) g.marks g.memberships
             (new_world all)) }
         ensures slots { IfOk result (λ g. g.marks.slots ≡ limits.slots) }
-        ensures members { IfOk result (λ g. HasLists g.marks g.memberships (λ list. [])) }
     {
         let marks = new_marks(alloc, limits.slots)?;
         let visits = new_visits(alloc, limits.slots)?;

@@ -31,11 +31,7 @@ impl<St: Store + Drop, Q: Queue + Drop> HasMembers for Graph<St, Q> {
         listing::older_member(&self.fields, &self.memberships, node)
     }
 
-    ghost use Rattle.promise_graph.specs.Laws.{same_lists};
+    ghost members_built = { λ g w list n st i. st.lists.below list n i };
 
-    ghost lists_same = { λ g lists others same h. same_lists g.marks g.memberships lists others same h };
-
-    ghost members_built = { λ g lists list n h i. h.below list n i };
-
-    ghost lists_apart = { λ g lists h. h.apart };
+    ghost lists_apart = { λ g w st. st.lists.apart };
 }

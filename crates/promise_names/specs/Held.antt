@@ -6,6 +6,7 @@ use Rattle.kj_model.specs.Nodes.{renamed}
 use Rattle.kj_model.specs.Fire.{awaited_renamed, named_renamed}
 use Rattle.kj_model.specs.Free.{abandoned_as, ask_of, without_wrap}
 use Rattle.kj_model.specs.World.{World, Named, Awaited, Held, Promise, CellOf, AskCell, HubOf, Group, Canceler, RequestOf}
+pub use Rattle.promise_nodes.specs.Members.{members_of}
 use Rattle.promise_nodes.specs.Shown.{link_number}
 use Rattle.promise_names.specs.declared.names.Awaited.{Awaited as AwaitedCase}
 use Rattle.promise_names.specs.declared.names.Held.{Held as HeldCase}
@@ -34,12 +35,6 @@ SeesHeld None None = Unit {0}
 SeesHeld None (Some seen) = ⊥
 SeesHeld (Some held) None = ⊥
 SeesHeld (Some held) (Some seen) = IsHeld held seen
-
--- the tasks of a set, and the Wraps of a canceler; nothing else has any
-abbrev pub members_of : Option Held → List ℕ
-members_of (Some (Group error tasks empty)) = tasks
-members_of (Some (Canceler wraps)) = wraps
-members_of other = []
 
 -- neither a set nor a canceler
 abbrev pub IsListless : Option Held → Type 0

@@ -1,2 +1,3 @@
 pub mod Hubs
 pub mod Listed
+pub mod Same

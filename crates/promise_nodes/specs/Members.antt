@@ -44,6 +44,6 @@ IsListOf n lists (Some list) = is_in n (lists list.0) ≡ true
 abbrev pub AreApart : (ℕ → List ℕ) → Type 0
 AreApart lists = (n list other : ℕ) → is_in n (lists list) ≡ true → is_in n (lists other) ≡ true → list ≡ other
 
--- what is kept stands for the same lists as before
-abbrev pub KeepsLists : ((ℕ → List ℕ) → Type 0) → ((ℕ → List ℕ) → Type 0) → Type 0
-KeepsLists old new = (lists : ℕ → List ℕ) → old lists → new lists
+-- the lists of a world are these
+abbrev pub AreLists : World → (ℕ → List ℕ) → Type 0
+AreLists w lists = (list : ℕ) → lists_in w list ≡ lists list

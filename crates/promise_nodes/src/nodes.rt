@@ -12,7 +12,7 @@ ghost use Rattle.kj_model.specs.Effects.{with_branch_in, with_detached, disarmed
 ghost use Rattle.kj_model.specs.Calls.{rewound_world, taken_world, hubs_of};
 ghost use Rattle.promise_nodes.specs.Shown.{shown, link_number, Sees, SeesOwner, way_of};
 ghost use Rattle.promise_nodes.specs.Once.{AreOnce};
-ghost use Rattle.promise_nodes.specs.Members.{KeepsLists};
+ghost use Rattle.promise_nodes.specs.Members.{AreLists, lists_in};
 ghost use Rattle.promise_nodes.specs.Kept.{SameNodes, IsLive, newest_task, without_detached, IsEvent, IsBranch, IsPart, IsReplaceable, KeepsKind, is_unreferenced, awaited_root, rows_left, OnlyFalls, OnlyRises, RisesIn, IsPlain, ShowsPlain, AreRoots, AreBuilt, AddsNone, AreRowsBuilt, put_form, rows_seen, tree_replaced, AreUnmarked, IsMarked, Same, SameRows};
 
 use kj_base::{Form, Link};
@@ -54,15 +54,12 @@ impl Default for NodeRow {
 /// A link says which node is meant by its number; its slot only finds it sooner. No call takes memory.
 ///
 /// The contracts speak of each world that it stands for: of its nodes, queue, spots, limits, firing event and awaited
-/// tree, whatever the names and lists of that world are.
+/// tree, and of the members of its lists, whatever the names of that world are else.
 pub trait Nodes {
     ghost use Rattle.promise_nodes.specs.declared.nodes.Mark.{Mark};
 
     /// It stands for this world.
     ghost stands: { Self → World → Type 0 };
-
-    /// The live ones among the members of each list are those that it keeps. A node that goes leaves its list.
-    ghost has_lists: { Self → (ℕ → List ℕ) → Type 0 };
 
     /// The number of slots, which no call changes.
     ghost slots: { Self → ℕ };
@@ -151,7 +148,6 @@ pub trait Nodes {
         ensures taken { RisesIn (parts_of (shown [] form)) (is_taken self.old) (is_taken self.new) }
         ensures listed { OnlyFalls (is_listed self.old) (is_listed self.new) }
         ensures plain { OnlyRises (is_plain self.old) (is_plain self.new) }
-        ensures lists { KeepsLists (has_lists self.old) (has_lists self.new) }
         ensures slots { slots self.new ≡ slots self.old };
 
     /// A node has this form now, where it is live; it has no new tree. A hub keeps its branches.
@@ -165,7 +161,6 @@ pub trait Nodes {
         ensures listed { OnlyFalls (is_listed self.old) (is_listed self.new) }
         ensures plain { OnlyRises (is_plain self.old) (is_plain self.new) }
         ensures next { next self.new ≡ next self.old }
-        ensures lists { KeepsLists (has_lists self.old) (has_lists self.new) }
         ensures slots { slots self.new ≡ slots self.old };
 
     /// A node goes, with its event.
@@ -178,7 +173,6 @@ pub trait Nodes {
         ensures listed { OnlyFalls (is_listed self.old) (is_listed self.new) }
         ensures plain { OnlyRises (is_plain self.old) (is_plain self.new) }
         ensures next { next self.new ≡ next self.old }
-        ensures lists { KeepsLists (has_lists self.old) (has_lists self.new) }
         ensures slots { slots self.new ≡ slots self.old };
 
     /// A branch is its hub's newest.
@@ -193,7 +187,6 @@ pub trait Nodes {
         ensures listed { RisesIn (branch.number.0 ∷ []) (is_listed self.old) (is_listed self.new) }
         ensures plain { OnlyRises (is_plain self.old) (is_plain self.new) }
         ensures next { next self.new ≡ next self.old }
-        ensures lists { KeepsLists (has_lists self.old) (has_lists self.new) }
         ensures slots { slots self.new ≡ slots self.old };
 
     /// A branch leaves its hub; whether the hub has neither name nor branch now.
@@ -212,7 +205,6 @@ pub trait Nodes {
         ensures listed { OnlyFalls (is_listed self.old) (is_listed self.new) }
         ensures plain { OnlyRises (is_plain self.old) (is_plain self.new) }
         ensures next { next self.new ≡ next self.old }
-        ensures lists { KeepsLists (has_lists self.old) (has_lists self.new) }
         ensures slots { slots self.new ≡ slots self.old };
 
     /// Whether a hub has neither name nor branch.
@@ -249,7 +241,6 @@ pub trait Nodes {
         ensures listed { OnlyFalls (is_listed self.old) (is_listed self.new) }
         ensures plain { OnlyRises (is_plain self.old) (is_plain self.new) }
         ensures next { next self.new ≡ next self.old }
-        ensures lists { KeepsLists (has_lists self.old) (has_lists self.new) }
         ensures slots { slots self.new ≡ slots self.old };
 
     /// A live node is the newest task of the loop's own set. A task that goes leaves that set.
@@ -263,7 +254,6 @@ pub trait Nodes {
         ensures listed { OnlyFalls (is_listed self.old) (is_listed self.new) }
         ensures plain { OnlyRises (is_plain self.old) (is_plain self.new) }
         ensures next { next self.new ≡ next self.old }
-        ensures lists { KeepsLists (has_lists self.old) (has_lists self.new) }
         ensures slots { slots self.new ≡ slots self.old };
 
     /// A node leaves the loop's own set, if it is there.
@@ -275,7 +265,6 @@ pub trait Nodes {
         ensures listed { OnlyFalls (is_listed self.old) (is_listed self.new) }
         ensures plain { OnlyRises (is_plain self.old) (is_plain self.new) }
         ensures next { next self.new ≡ next self.old }
-        ensures lists { KeepsLists (has_lists self.old) (has_lists self.new) }
         ensures slots { slots self.new ≡ slots self.old };
 
     /// The newest live task of the loop's own set.
@@ -298,7 +287,6 @@ pub trait Nodes {
         ensures listed { OnlyFalls (is_listed self.old) (is_listed self.new) }
         ensures plain { OnlyRises (is_plain self.old) (is_plain self.new) }
         ensures next { next self.new ≡ next self.old }
-        ensures lists { KeepsLists (has_lists self.old) (has_lists self.new) }
         ensures slots { slots self.new ≡ slots self.old };
 
     /// An event leaves the queue, if it is there.
@@ -310,7 +298,6 @@ pub trait Nodes {
         ensures listed { OnlyFalls (is_listed self.old) (is_listed self.new) }
         ensures plain { OnlyRises (is_plain self.old) (is_plain self.new) }
         ensures next { next self.new ≡ next self.old }
-        ensures lists { KeepsLists (has_lists self.old) (has_lists self.new) }
         ensures slots { slots self.new ≡ slots self.old };
 
     /// The first event leaves the queue; its node, or number 0 for the wait.
@@ -321,7 +308,6 @@ pub trait Nodes {
         ensures listed { OnlyFalls (is_listed self.old) (is_listed self.new) }
         ensures plain { OnlyRises (is_plain self.old) (is_plain self.new) }
         ensures next { next self.new ≡ next self.old }
-        ensures lists { KeepsLists (has_lists self.old) (has_lists self.new) }
         ensures slots { slots self.new ≡ slots self.old };
 
     /// The first insertion point of the queue goes to the front.
@@ -331,7 +317,6 @@ pub trait Nodes {
         ensures listed { OnlyFalls (is_listed self.old) (is_listed self.new) }
         ensures plain { OnlyRises (is_plain self.old) (is_plain self.new) }
         ensures next { next self.new ≡ next self.old }
-        ensures lists { KeepsLists (has_lists self.old) (has_lists self.new) }
         ensures slots { slots self.new ≡ slots self.old };
 
     /// This event fires, or none.
@@ -343,7 +328,6 @@ pub trait Nodes {
         ensures listed { OnlyFalls (is_listed self.old) (is_listed self.new) }
         ensures plain { OnlyRises (is_plain self.old) (is_plain self.new) }
         ensures next { next self.new ≡ next self.old }
-        ensures lists { KeepsLists (has_lists self.old) (has_lists self.new) }
         ensures slots { slots self.new ≡ slots self.old };
 
     /// A wait awaits this root, or none.
@@ -356,7 +340,6 @@ pub trait Nodes {
         ensures listed { OnlyFalls (is_listed self.old) (is_listed self.new) }
         ensures plain { OnlyRises (is_plain self.old) (is_plain self.new) }
         ensures next { next self.new ≡ next self.old }
-        ensures lists { KeepsLists (has_lists self.old) (has_lists self.new) }
         ensures slots { slots self.new ≡ slots self.old };
 
     /// No node has a mark.
@@ -368,7 +351,6 @@ pub trait Nodes {
         ensures plain { Same (is_plain self.old) (is_plain self.new) }
         ensures room { SameRows (room self.old) (room self.new) }
         ensures next { next self.new ≡ next self.old }
-        ensures lists { KeepsLists (has_lists self.old) (has_lists self.new) }
         ensures slots { slots self.new ≡ slots self.old };
 
     /// A live node has this mark in place of the one that it had.
@@ -383,16 +365,16 @@ pub trait Nodes {
         ensures plain { Same (is_plain self.old) (is_plain self.new) }
         ensures room { SameRows (room self.old) (room self.new) }
         ensures next { next self.new ≡ next self.old }
-        ensures lists { KeepsLists (has_lists self.old) (has_lists self.new) }
         ensures slots { slots self.new ≡ slots self.old };
 
     /// The mark of a node.
     fn mark_of(&self, node: Link) -> Mark
         ensures { result ≡ marks self.now node.number.0 };
 
-    /// Names and lists don't matter.
+    /// Names don't matter, as long as lists have the same members.
     ghost names_free: { (nodes : Self) (w v : World)
         → SameNodes w v
+        → AreLists v (lists_in w)
         → stands nodes w
         → stands nodes v };
 

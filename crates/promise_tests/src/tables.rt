@@ -20,7 +20,7 @@ pub type TableEvaluator = Evaluator<Graph<NodeTable, EventList>, NameTable>;
 fn table_graph(alloc: Global, limits: Limits) -> Result<Graph<NodeTable, EventList>, NoMemory>
     requires few { limits.slots ≤ MAX_SLOTS }
     ensures stands { IfOk result (λ g. StandsFor (node_of g.store) g.queue.events
-        (TableStands g.store) g.marks (new_world limits)) }
+        (TableStands g.store) g.marks g.memberships (new_world limits)) }
 {
     let store = match NodeTable::new(alloc, limits.slots) {
         Ok(store) => store,
@@ -53,7 +53,7 @@ fn no_names(alloc: Global, limits: Limits) -> Result<NameTable, NoMemory>
 pub fn evaluator_over_tables(alloc: Global, limits: Limits) -> Result<TableEvaluator, NoMemory>
     requires few { limits.slots ≤ MAX_SLOTS }
     ensures nodes { IfOk result (λ e. StandsFor (node_of e.nodes.store) e.nodes.queue.events
-        (TableStands e.nodes.store) e.nodes.marks (new_world limits)) }
+        (TableStands e.nodes.store) e.nodes.marks e.nodes.memberships (new_world limits)) }
     ensures names { IfOk result (λ e. NamesStand e.names (new_world limits)) }
     ensures none_over { IfOk result (λ e. trees e.names.over ≡ []) }
 {

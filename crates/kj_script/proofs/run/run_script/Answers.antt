@@ -13,5 +13,5 @@ use Rattle.kj_script.proofs.run.run_script.Goals as goal
 pub run_on-requires : goal.run_on-requires
 run_on-requires c =
     let over = c.in_ok-over.over in
-    subst (λ (l : Limits). StandsAt places_fit (StandsFor (node_of over.nodes.store) over.nodes.queue.events (ArenasStand over.nodes.store) over.nodes.marks) (NamesStand over.names) (new_state l))
+    subst (λ (l : Limits). StandsAt places_fit (StandsFor (node_of over.nodes.store) over.nodes.queue.events (ArenasStand over.nodes.store) over.nodes.marks over.nodes.memberships) (NamesStand over.names) (new_state l))
     (c.limits_of.ensures.limits ∙ ap limits_or c.limits.ensures) c.in_ok-over.ensures

@@ -4,6 +4,8 @@ use Rattle.kj_model.specs.Changes.{named}
 use Rattle.kj_model.specs.World.{World, Promise, Held, held_at}
 use Rattle.promise_names.specs.Held.{IsListless, awaited_key}
 use Rattle.promise_walks.specs.Walks.{Both}
+use Rattle.promise_nodes.proofs.Same.{named_lists}
+use Rattle.promise_nodes.specs.Members.{members_of}
 use Rattle.loop_core.proofs.Held.{free_falls, free_moved}
 use Rattle.loop_core.proofs.holding.give_back.Goals as goal
 
@@ -35,4 +37,4 @@ returns-clause-stands g c w both none =
     let v = with_awaited None w in
     let nodes = c.set_awaited.ensures.stands w None inner.0 refl in
     let names = c.set.ensures.stands v (c.let_go.ensures.stands w inner.1) (subst (λ (o : Option Held). IsListless o) (sym none) tt) in
-    (g.met.N.Nodes.names_free c.set_awaited.new.self v (named name (Promise root) v) refl nodes, names)
+    (g.met.N.Nodes.names_free c.set_awaited.new.self v (named name (Promise root) v) refl (named_lists name (Promise root) v (sym (ap members_of none))) nodes, names)

@@ -5,6 +5,8 @@ use Rattle.kj_model.specs.Changes.{unnamed}
 use Rattle.kj_model.specs.Effects.{node_of, cell_dropped}
 use Rattle.kj_model.specs.Listening.{settled}
 use Rattle.kj_model.specs.Outcomes.{fulfiller_dropped}
+use Rattle.promise_nodes.proofs.Same.{unnamed_lists}
+use Rattle.promise_nodes.specs.Members.{members_of}
 use Rattle.promise_apply.proofs.Same.{settled_names, unnamed_nodes}
 use Rattle.promise_apply.proofs.cells.drop_cell.Goals as goal
 
@@ -14,7 +16,7 @@ returns-clause-stands g c w both held =
     let n = c.args.cell.number.0 in
     let v = unnamed name w in
     let o = c.dropped.result in
-    let nodes = g.met.N.Nodes.names_free c.args.nodes.now w v (unnamed_nodes name w) both.0 in
+    let nodes = g.met.N.Nodes.names_free c.args.nodes.now w v (unnamed_nodes name w) (unnamed_lists name w (ap members_of held)) both.0 in
     let settles = c.settle.ensures.stands v nodes in
     let names = g.met.M.Names.nodes_free c.remove.new.self v (settled DepthFirst n o v) (settled_names DepthFirst n o v) (c.remove.ensures.stands w both.1) in
     let same : settled DepthFirst n o v ≡ cell_dropped name w =

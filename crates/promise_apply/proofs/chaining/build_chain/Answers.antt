@@ -9,9 +9,11 @@ use Rattle.kj_model.specs.Places.{built}
 use Rattle.kj_model.specs.Effects.{node_named, over_built, chain_built}
 use Rattle.kj_model.specs.Listening.{listened}
 use Rattle.promise_names.specs.Held.{AreFree, HasRoot, IsListless}
+use Rattle.promise_names.proofs.Listless.{none_listed}
 use Rattle.promise_apply.specs.Building.{over_shown}
 use Rattle.promise_apply.specs.declared.building.Over.TheVariants.{Then as ThenCase}
-use Rattle.promise_apply.proofs.Same.{built_names, named_nodes, listened_names}
+use Rattle.promise_nodes.proofs.Same.{built_names, named_lists}
+use Rattle.promise_apply.proofs.Same.{named_nodes, listened_names}
 use Rattle.promise_apply.proofs.Live.{built_held}
 use Rattle.promise_apply.proofs.Roots.{free_more}
 use Rattle.promise_apply.proofs.Sided.{free_taken, free_later}
@@ -35,8 +37,9 @@ returns-clause-stands g c w both held listless =
     let u = named name (Promise m) b in
     let nodes = c.build-chain.ensures.stands over taken.0 in
     let names = g.met.M.Names.nodes_free c.take_source-then.new.names over b (built_names (Some n) (Chain n) over) taken.1 in
-    let set = c.set.ensures.stands b names (subst IsListless (sym (ap (held_at name) (built_held (Some n) (Chain n) over))) listless) in
-    let kept = g.met.N.Nodes.names_free c.build-chain.new.self b u (named_nodes name (Promise m) b) nodes in
+    let free = subst IsListless (sym (ap (held_at name) (built_held (Some n) (Chain n) over))) listless in
+    let set = c.set.ensures.stands b names free in
+    let kept = g.met.N.Nodes.names_free c.build-chain.new.self b u (named_nodes name (Promise m) b) (named_lists name (Promise m) b (sym (none_listed (held_at name b.names) free))) nodes in
     let listens = c.listen.ensures.stands u kept in
     let after = g.met.M.Names.nodes_free c.set.new.self u (listened n u) (listened_names n u) set in
     let same : listened n u ≡ chain_built name source (step_of c.args.value) (step_of c.args.error) w =

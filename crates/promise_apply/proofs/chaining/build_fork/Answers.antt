@@ -5,7 +5,10 @@ use Rattle.kj_model.specs.Changes.{named, unnamed}
 use Rattle.kj_model.specs.Places.{built}
 use Rattle.kj_model.specs.Effects.{node_of, fork_built}
 use Rattle.kj_model.specs.Listening.{listened}
-use Rattle.promise_apply.proofs.Same.{built_names, named_nodes, unnamed_nodes, listened_names}
+use Rattle.promise_nodes.proofs.Same.{built_names, named_lists, unnamed_lists}
+use Rattle.promise_nodes.specs.Members.{members_of}
+use Rattle.promise_names.proofs.Listless.{none_listed}
+use Rattle.promise_apply.proofs.Same.{named_nodes, unnamed_nodes, listened_names}
 use Rattle.promise_apply.proofs.chaining.build_fork.Goals as goal
 
 pub returns-clause-stands : goal.returns-clause-stands
@@ -18,10 +21,10 @@ returns-clause-stands g c w both held listless =
     let v = unnamed source w in
     let b = built None (Hub (Tree t) true []) v in
     let u = named hub (HubOf m) b in
-    let nodes = c.build-node.ensures.stands v (g.met.N.Nodes.names_free c.args.nodes.now w v (unnamed_nodes source w) both.0) in
+    let nodes = c.build-node.ensures.stands v (g.met.N.Nodes.names_free c.args.nodes.now w v (unnamed_nodes source w) (unnamed_lists source w (ap members_of held)) both.0) in
     let names = g.met.M.Names.nodes_free c.remove.new.self v b (built_names None (Hub (Tree t) true []) v) (c.remove.ensures.stands w both.1) in
     let set = c.set.ensures.stands b names listless in
-    let kept = g.met.N.Nodes.names_free c.build-node.new.self b u (named_nodes hub (HubOf m) b) nodes in
+    let kept = g.met.N.Nodes.names_free c.build-node.new.self b u (named_nodes hub (HubOf m) b) (named_lists hub (HubOf m) b (sym (none_listed (held_at hub b.names) listless))) nodes in
     let listens = c.listen.ensures.stands u kept in
     let after = g.met.M.Names.nodes_free c.set.new.self u (listened t u) (listened_names t u) set in
     let same : listened t u ≡ fork_built hub source w =

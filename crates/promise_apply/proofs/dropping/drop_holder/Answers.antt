@@ -2,6 +2,7 @@ use Rattle.std.proofs.Common.{◌≡◌, ◌∙◌, [], ◌∷◌, Option, None,
 use Rattle.kj_base.specs.Commands.{Drop}
 use Rattle.kj_model.specs.World.{World}
 use Rattle.kj_model.specs.Changes.{unnamed}
+use Rattle.promise_nodes.proofs.Same.{unnamed_lists}
 use Rattle.promise_apply.specs.Building.{Both}
 use Rattle.promise_apply.proofs.Dropped.{holder_calm, holder_done, holder_full, refused_behind, tested_count}
 use Rattle.promise_apply.proofs.dropping.drop_holder.Goals as goal
@@ -25,4 +26,4 @@ returns-clause-applied g c =
     ∙ sym (tested_count g.N.Nodes.rule name _ s.world c.dropped.ensures (λ passes. c.in_ok-check_count.ensures.refusal s.world old passes) may.passes))
     (λ w old. (c.requires.held w old).holder)
     (λ w old. g.met.M.Names.no_members c.args.names.now w name old.1)
-    (λ w old. (g.met.N.Nodes.names_free c.args.nodes.now w (unnamed name w) refl old.0, c.remove.ensures.stands w old.1))
+    (λ w old. (g.met.N.Nodes.names_free c.args.nodes.now w (unnamed name w) refl (unnamed_lists name w (g.met.M.Names.no_members c.args.names.now w name old.1)) old.0, c.remove.ensures.stands w old.1))

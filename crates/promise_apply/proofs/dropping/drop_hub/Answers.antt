@@ -8,6 +8,8 @@ use Rattle.kj_model.specs.Free.{Guard, Holding, free, free_to, reference_gone, u
 use Rattle.kj_model.specs.Effects.{dropped_held, hub_unnamed}
 use Rattle.promise_nodes.specs.Shown.{link_number}
 use Rattle.promise_walks.proofs.Unnamed.{unnamed_names, unreferenced_same}
+use Rattle.promise_nodes.proofs.Same.{unnamed_lists}
+use Rattle.promise_nodes.specs.Members.{members_of}
 use Rattle.promise_apply.specs.Building.{Both}
 use Rattle.promise_apply.proofs.Dropped.{done_does, err_does}
 use Rattle.promise_apply.proofs.dropping.drop_hub.Goals as goal
@@ -30,7 +32,7 @@ returns-clause-applied g c =
     let by_slots : ℕ → State → State = free_to guard (g.N.Nodes.slots then + 1) in
     let change : World → World = λ w. hub_unnamed hub (unnamed name w) in
     let moved : (w : World) → Both (g.N.Nodes.stands c.args.nodes.now) (g.M.Names.stands c.args.names.now) w → Both (g.N.Nodes.stands then) (g.M.Names.stands names) (change w) = λ w old.
-    let bare = g.met.N.Nodes.names_free nodes w (unnamed name w) refl (c.in_ok-test_hub.ensures.stands w old.0) in
+    let bare = g.met.N.Nodes.names_free nodes w (unnamed name w) refl (unnamed_lists name w (ap members_of (c.requires.held w old).held_is)) (c.in_ok-test_hub.ensures.stands w old.0) in
     (c.unname_hub.ensures.stands (unnamed name w) bare, g.met.M.Names.nodes_free names (unnamed name w) (change w) (unnamed_names hub (unnamed name w)) (c.remove.ensures.stands w old.1)) in
     done_does (Both (g.N.Nodes.stands c.args.nodes.now) (g.M.Names.stands c.args.names.now)) (Both (g.N.Nodes.stands then) (g.M.Names.stands names)) (Both (g.N.Nodes.stands c.free_unreferenced.new.nodes) (g.M.Names.stands c.free_unreferenced.new.names)) g.N.Nodes.rule (Drop name) change (reference_gone guard by_slots hub) _ _
     (λ answer inside s old. c.in_ok-test_hub.ensures.refusal answer inside s old)

@@ -5,6 +5,8 @@ use Rattle.kj_model.specs.Changes.{unnamed}
 use Rattle.kj_model.specs.Free.{usual}
 use Rattle.kj_model.specs.Effects.{dropped_held}
 use Rattle.kj_model.specs.Value.{freed}
+use Rattle.promise_nodes.proofs.Same.{unnamed_lists}
+use Rattle.promise_nodes.specs.Members.{members_of}
 use Rattle.promise_apply.specs.Building.{Both}
 use Rattle.promise_apply.proofs.Dropped.{done_does, err_does}
 use Rattle.promise_apply.proofs.dropping.drop_promise.Goals as goal
@@ -24,5 +26,5 @@ returns-clause-applied g c =
     done_does (Both (g.N.Nodes.stands c.args.nodes.now) (g.M.Names.stands c.args.names.now)) (Both (g.N.Nodes.stands nodes) (g.M.Names.stands c.remove.new.self)) (Both (g.N.Nodes.stands c.free_part.new.nodes) (g.M.Names.stands c.free_part.new.names)) g.N.Nodes.rule (Drop name) (unnamed name) (freed root) _ _
     (λ answer inside s old. c.in_ok-test_promise.ensures.refusal answer inside s old)
     (λ s old. ap (λ (o : Option Held). dropped_held (usual s.world) name o s) (c.requires.held s.world old).held_is)
-    (λ w old. (g.met.N.Nodes.names_free nodes w (unnamed name w) refl (c.in_ok-test_promise.ensures.stands w old.0), c.remove.ensures.stands w old.1))
+    (λ w old. (g.met.N.Nodes.names_free nodes w (unnamed name w) refl (unnamed_lists name w (ap members_of (c.requires.held w old).held_is)) (c.in_ok-test_promise.ensures.stands w old.0), c.remove.ensures.stands w old.1))
     c.free_part.ensures.does

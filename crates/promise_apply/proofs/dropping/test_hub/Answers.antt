@@ -3,6 +3,8 @@ use Rattle.kj_base.specs.Commands.{Drop}
 use Rattle.kj_model.specs.Changes.{unnamed}
 use Rattle.kj_model.specs.Uses.{Use, use_as, IsDroppable}
 use Rattle.kj_model.specs.Apply.{Full, is_busy}
+use Rattle.promise_nodes.proofs.Same.{unnamed_lists}
+use Rattle.promise_nodes.specs.Members.{members_of}
 use Rattle.promise_apply.specs.Applying.{lacks_room, refused_first, refused_if}
 use Rattle.promise_apply.specs.Uses.{uses_shown}
 use Rattle.promise_apply.proofs.Dropped.{refused_behind, hub_busy, tested_count}
@@ -14,7 +16,7 @@ returns-then-hub_frees_firing-clause-refusal g c answer inside s old =
     let may = c.requires.held s.world old in
     let busy : is_busy (Drop name) s ≡ true =
     hub_busy name c.args.hub.number.0 s may.held_is
-    ∙ sym (c.hub_frees_firing.ensures.found (unnamed name s.world) (g.met.N.Nodes.names_free c.args.nodes.now s.world (unnamed name s.world) refl old.0))
+    ∙ sym (c.hub_frees_firing.ensures.found (unnamed name s.world) (g.met.N.Nodes.names_free c.args.nodes.now s.world (unnamed name s.world) refl (unnamed_lists name s.world (ap members_of may.held_is)) old.0))
     ∙ c.if-hub_frees_firing.true in
     refused_behind g.N.Nodes.rule answer inside true name s may.passes busy
 
@@ -25,7 +27,7 @@ returns-clause-refusal g c answer inside s old =
     let may = c.requires.held w old in
     let busy : is_busy (Drop name) s ≡ false =
     hub_busy name c.args.hub.number.0 s may.held_is
-    ∙ sym (c.hub_frees_firing.ensures.found (unnamed name w) (g.met.N.Nodes.names_free c.args.nodes.now w (unnamed name w) refl old.0))
+    ∙ sym (c.hub_frees_firing.ensures.found (unnamed name w) (g.met.N.Nodes.names_free c.args.nodes.now w (unnamed name w) refl (unnamed_lists name w (ap members_of may.held_is)) old.0))
     ∙ c.if-hub_frees_firing.false in
     refused_behind g.N.Nodes.rule answer inside false name s may.passes busy
     ∙ sym (tested_count g.N.Nodes.rule name _ w c.dropped.ensures (λ passes. c.check_count.ensures.refusal w (c.hub_frees_firing.ensures.stands w old.0, old.1) passes) may.passes)

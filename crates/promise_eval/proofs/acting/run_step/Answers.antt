@@ -21,5 +21,5 @@ returns-in-Err-clause-gives g c = record {
   told = c.in-Err.ensures.none;
   same = lacked (Both (g.N.Nodes.stands c.args.nodes.now) (g.M.Names.stands c.args.names.now)) (Both (g.N.Nodes.stands c.args.nodes.now) (g.M.Names.stands c.stop.new.self)) g.N.Nodes.rule
       c.args.under_chain c.args.node.number.0 c.args.step.0 c.args.input
-      (λ w old. (g.met.N.Nodes.names_free c.args.nodes.now w (with_stopped w) refl old.0, c.stop.ensures.stands w old.1));
+      (λ w old. (g.met.N.Nodes.names_free c.args.nodes.now w (with_stopped w) refl (λ l. refl) old.0, c.stop.ensures.stands w old.1));
 }

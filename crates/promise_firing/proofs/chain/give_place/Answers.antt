@@ -2,7 +2,7 @@ use Rattle.std.proofs.Common.{◌∙◌, ℕ, refl, subst, sym}
 use Rattle.kj_model.specs.Fire.{awaited_renamed}
 use Rattle.promise_nodes.specs.Kept.{tree_replaced}
 use Rattle.promise_names.specs.Held.{AreFree, roots_replaced}
-use Rattle.promise_firing.proofs.Replacing.{free_replaced}
+use Rattle.promise_firing.proofs.Replacing.{free_replaced, replaced_lists}
 use Rattle.promise_firing.proofs.chain.give_place.Goals as goal
 
 pub returns-clause-stands : goal.returns-clause-stands
@@ -11,7 +11,7 @@ returns-clause-stands g c w both live place =
     let new = c.args.root.number.0 in
     let v = tree_replaced old new w in
     let u = record v { awaited = awaited_renamed old new v.awaited } in
-    let nodes = g.met.N.Nodes.names_free c.rename_awaited.new.nodes u (roots_replaced old new v) refl (c.rename_awaited.ensures.stands v (c.replace.ensures.stands w both.0 live place)) in
+    let nodes = g.met.N.Nodes.names_free c.rename_awaited.new.nodes u (roots_replaced old new v) refl (replaced_lists old new v) (c.rename_awaited.ensures.stands v (c.replace.ensures.stands w both.0 live place)) in
     let names = c.rename.ensures.stands v (g.met.M.Names.nodes_free c.args.names.now w v refl both.1) in
     (nodes, names)
 

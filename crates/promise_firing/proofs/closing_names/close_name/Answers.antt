@@ -2,6 +2,7 @@ use Rattle.std.proofs.Common.{refl, sym, ap, subst, [], Option}
 use Rattle.kj_model.specs.World.{World, Held, held_at}
 use Rattle.kj_model.specs.Changes.{silent, unnamed}
 use Rattle.kj_model.specs.Calls.{closed_held}
+use Rattle.promise_nodes.proofs.Same.{unnamed_lists}
 use Rattle.promise_names.specs.declared.names.Held.{Held as HeldCase}
 use Rattle.promise_names.specs.Held.{held_shown, SeesHeld}
 use Rattle.promise_walks.specs.Walks.{Both}
@@ -22,7 +23,7 @@ returns-in-Some-clause-does g c =
     (λ s stands. seen_closed held name s.world.names (silent (unnamed name) s) (subst (λ (o : Option HeldCase). SeesHeld o (held_at name s.world.names)) c.in-Some.is (c.get-held.ensures.held s.world stands.1))
     (λ n. g.met.M.Names.no_tasks c.args.names.now s.world n stands.1))
     (does_behind A B C (closed_held (held_shown [] held)) (unnamed name) _ _
-    (λ w stands. (g.met.N.Nodes.names_free c.args.nodes.now w (unnamed name w) refl stands.0, c.remove.ensures.stands w stands.1))
+    (λ w stands. (g.met.N.Nodes.names_free c.args.nodes.now w (unnamed name w) refl (unnamed_lists name w (g.met.M.Names.no_members c.args.names.now w name stands.1)) stands.0, c.remove.ensures.stands w stands.1))
     c.close_held.ensures.does)
 
 pub returns-in_default-clause-does : goal.returns-in_default-clause-does
@@ -33,5 +34,5 @@ returns-in_default-clause-does g c =
     does_from A B (λ s. silent (unnamed name) s) (name_closed name) (λ s. s) _ _
     (λ s stands. ap (λ (o : Option Held). found_closed o (silent (unnamed name) s)) (sym (nothing_seen name s.world.names (subst (λ (o : Option HeldCase). SeesHeld o (held_at name s.world.names)) c.in_default.is (c.get-held.ensures.held s.world stands.1)))))
     (does_behind A B B (λ s. s) (unnamed name) _ _
-    (λ w stands. (g.met.N.Nodes.names_free c.args.nodes.now w (unnamed name w) refl stands.0, c.remove.ensures.stands w stands.1))
+    (λ w stands. (g.met.N.Nodes.names_free c.args.nodes.now w (unnamed name w) refl (unnamed_lists name w (g.met.M.Names.no_members c.args.names.now w name stands.1)) stands.0, c.remove.ensures.stands w stands.1))
     (does_none B _))

@@ -16,10 +16,10 @@ returns-clause-stands g c w both =
     let over = with_left_over n listless in
     let names = g.met.M.Names.nodes_free c.args.names.now w bare refl both.1 in
     let left = c.leave_over.ensures.stands listless (g.met.M.Names.nodes_free c.args.names.now bare listless refl names) in
-    let nodes = g.met.N.Nodes.names_free c.delist.new.self listless over refl (c.delist.ensures.stands bare (c.put_bare.ensures.stands w both.0)) in
+    let nodes = g.met.N.Nodes.names_free c.delist.new.self listless over refl (λ l. refl) (c.delist.ensures.stands bare (c.put_bare.ensures.stands w both.0)) in
     let same : without_left_over n over ≡ without_left_over n (set_left n bare) =
     ap (λ (o : Option Named). without_left_over n (group_left n o over)) (sym (g.met.M.Names.no_tasks c.args.names.now bare n names)) in
-    (subst (g.N.Nodes.stands c.delist.new.self) same (g.met.N.Nodes.names_free c.delist.new.self over (without_left_over n over) refl nodes), subst (g.M.Names.stands c.take_over.new.self) same (c.take_over.ensures.stands over left))
+    (subst (g.N.Nodes.stands c.delist.new.self) same (g.met.N.Nodes.names_free c.delist.new.self over (without_left_over n over) refl (λ l. refl) nodes), subst (g.M.Names.stands c.take_over.new.self) same (c.take_over.ensures.stands over left))
 
 pub returns-clause-over : goal.returns-clause-over
 returns-clause-over g c = c.take_over.ensures.over ∙ ap (dropped c.args.task.number.0) c.leave_over.ensures.over ∙ dropped_last c.args.task.number.0 (g.M.Names.over c.args.names.now)

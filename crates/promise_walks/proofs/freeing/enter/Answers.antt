@@ -5,7 +5,7 @@ use Rattle.kj_model.specs.Free.{is_guarded, without_branch}
 use Rattle.promise_walks.specs.Walks.{Both, guard_of}
 use Rattle.promise_walks.specs.Stacks.{falls_count}
 use Rattle.promise_walks.proofs.Entered.{entered, entered_branch, branch_seen}
-use Rattle.promise_walks.proofs.Left.{without_branch_names}
+use Rattle.promise_nodes.proofs.Same.{without_branch_names}
 use Rattle.promise_walks.proofs.Unlisted.{unlisted_unless}
 use Rattle.promise_walks.proofs.freeing.enter.Goals as goal
 

@@ -11,7 +11,7 @@ returns g c = record {
   stands = λ takes. record {
     takes = takes;
     stands = (
-      subst (λ nodes. StandsFor (g.St.Store.node_at nodes.store) (g.Q.Queue.events nodes.queue) (g.St.Store.stands nodes.store) nodes.marks (new_world c.args.limits))
+      subst (λ nodes. StandsFor (g.St.Store.node_at nodes.store) (g.Q.Queue.events nodes.queue) (g.St.Store.stands nodes.store) nodes.marks nodes.memberships (new_world c.args.limits))
           (sym (ap (λ k. k.nodes) c.in_ok-over.ensures ∙ c.in_ok-ground.ensures.nodes)) (c.in_ok-graph.ensures.stands c.args.limits refl),
       subst (λ names. Stands names (new_world c.args.limits))
           (sym (ap (λ k. k.names) c.in_ok-over.ensures ∙ c.in_ok-ground.ensures.names)) (c.in_ok-names.ensures.stands c.args.limits refl),

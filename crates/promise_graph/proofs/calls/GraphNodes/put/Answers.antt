@@ -1,10 +1,11 @@
+use Rattle.promise_nodes.specs.Members.{lists_in}
 use Rattle.promise_graph.proofs.Frames.{lists_seen, lists_still}
 use Rattle.promise_graph.proofs.Following.{stands_for}
 use Rattle.promise_graph.proofs.Marked.{stands_seen}
 use Rattle.promise_graph.proofs.calls.GraphNodes.put.Goals as goal
 
 pub returns-clause-stands : goal.returns-clause-stands
-returns-clause-stands g c w st kind adds = stands_for _ _ _ _ _ c.put.ensures.kept.sound.numbered (c.put.ensures.stands w (stands_seen g.St.Store.node_at g.Q.Queue.events g.St.Store.stands _ _ w c.self.view_is st.stands) kind adds)
-
-pub returns-clause-lists : goal.returns-clause-lists
-returns-clause-lists g c lists h = lists_still c.self.inside.fields.marks c.put.new.g.marks c.self.inside.memberships lists c.put.ensures.numbers c.put.ensures.falls.slots_are c.put.ensures.falls.next_is (lists_seen _ _ lists c.self.view_is h)
+returns-clause-stands g c w st kind adds = record {
+  nodes = stands_for _ _ _ _ _ c.put.ensures.kept.sound.numbered (c.put.ensures.stands w (stands_seen g.St.Store.node_at g.Q.Queue.events g.St.Store.stands _ _ w c.self.view_is st.nodes.stands) kind adds);
+  lists = lists_still c.self.inside.fields.marks c.put.new.g.marks c.self.inside.memberships (lists_in w) c.put.ensures.numbers c.put.ensures.falls.slots_are c.put.ensures.falls.next_is (lists_seen _ _ (lists_in w) c.self.view_is st.lists);
+}

@@ -1,12 +1,13 @@
+use Rattle.promise_nodes.specs.Members.{lists_in}
 use Rattle.std.proofs.Common.{◌∙◌}
 use Rattle.promise_graph.proofs.Frames.{lists_seen, newest_live}
 use Rattle.promise_graph.proofs.Marked.{stands_seen}
 use Rattle.promise_graph.proofs.member_calls.GraphHasMembers.newest_member.Goals as goal
 
 pub returns : goal.returns
-returns g c w lists st h =
+returns g c w st =
     let fields = c.self.inside.fields in
     let at = g.St.Store.node_at fields.store in
     let k = c.self.invariant.0.sound.numbered in
-    let seen = stands_seen g.St.Store.node_at g.Q.Queue.events g.St.Store.stands _ _ w c.self.view_is st.stands in
-    c.newest_member.ensures lists (lists_seen _ _ lists c.self.view_is h) ∙ newest_live at fields.marks k w seen.seen.nodes (lists c.args.list.0)
+    let seen = stands_seen g.St.Store.node_at g.Q.Queue.events g.St.Store.stands _ _ w c.self.view_is st.nodes.stands in
+    c.newest_member.ensures (lists_in w) (lists_seen _ _ (lists_in w) c.self.view_is st.lists) ∙ newest_live at fields.marks k w seen.seen.nodes (lists_in w c.args.list.0)

@@ -1,13 +1,14 @@
+use Rattle.promise_nodes.specs.Members.{lists_in}
 use Rattle.std.proofs.Common.{◌∙◌}
 use Rattle.promise_graph.proofs.Frames.{lists_seen, given_of, newest_live}
 use Rattle.promise_graph.proofs.Marked.{stands_seen}
 use Rattle.promise_graph.proofs.member_calls.GraphHasMembers.older_member.Goals as goal
 
 pub returns : goal.returns
-returns g c w lists list front back st h live are =
+returns g c w list front back st live are =
     let fields = c.self.inside.fields in
     let at = g.St.Store.node_at fields.store in
     let k = c.self.invariant.0.sound.numbered in
-    let seen = stands_seen g.St.Store.node_at g.Q.Queue.events g.St.Store.stands _ _ w c.self.view_is st.stands in
-    c.older_member.ensures lists list front back (lists_seen _ _ lists c.self.view_is h) (given_of at fields.marks k w seen.seen.nodes c.args.node.number.0 live) are
+    let seen = stands_seen g.St.Store.node_at g.Q.Queue.events g.St.Store.stands _ _ w c.self.view_is st.nodes.stands in
+    c.older_member.ensures (lists_in w) list front back (lists_seen _ _ (lists_in w) c.self.view_is st.lists) (given_of at fields.marks k w seen.seen.nodes c.args.node.number.0 live) are
     ∙ newest_live at fields.marks k w seen.seen.nodes front
