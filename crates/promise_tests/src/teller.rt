@@ -1,4 +1,5 @@
 //! Steps for tests.
+ghost use Rattle.std.specs.Prelude.{◌≡◌};
 ghost use Rattle.promise_commands.specs.Telling.{untold};
 
 use kj_base::{Ending, Exception, Kind, Name, NoMemory, NodeId, Outcome, StepId, Words};
@@ -57,7 +58,9 @@ impl Teller {
     }
 
     /// One item more, where there is room.
-    pub fn tell(&mut self, told: Told) {
+    pub fn tell(&mut self, told: Told)
+        ensures lacks { self.new.lacks ≡ self.old.lacks }
+    {
         let _ = self.told.push(told);
     }
 
