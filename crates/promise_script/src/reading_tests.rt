@@ -94,7 +94,6 @@ fn tells_what_is_not_built(rt: HostRuntime) -> Result<(), Fail> {
         b"begin 1 2",
         b"stop 1",
         b"reply 1 value",
-        b"wait 1 2",
     ] {
         assert!(rt; fault(rt.alloc(), word) == not_built(1));
     }
@@ -102,7 +101,7 @@ fn tells_what_is_not_built(rt: HostRuntime) -> Result<(), Fail> {
         (b"turn\nadd 1 2\nbogus\n".as_slice(), not_built(2)),
         (b"step 1\nadd 1 2\ninput\n", not_built(2)),
         (b"step 1\nadd 1 2", not_built(2)),
-        (b"step 1\ninput\nwait 1 2\n", not_built(3)),
+        (b"step 1\ninput\nstop 1\n", not_built(3)),
         (b"step 1\nwait 1 2\ninput\n", bad(2)),
         (b"sets 1\n", bad(1)),
         (b"set\t1\n", bad(1)),
