@@ -27,9 +27,9 @@ pub record Paths (w : World) : Type 0 where
   pub places : (n : ℕ) (x : Spot) → spot_of n w.spots ≡ Some x → x.place < 8
   pub keys : (n : ℕ) (x : Spot) → spot_of n w.spots ≡ Some x → x.key < w.next_key
   pub alone : (m n : ℕ) (x y : Spot) → spot_of m w.spots ≡ Some x → spot_of n w.spots ≡ Some y
-    → x.key ≡ y.key → x.place ≡ y.place → m ≡ n
+      → x.key ≡ y.key → x.place ≡ y.place → m ≡ n
   pub paths : (m n : ℕ) (x y : Spot) → spot_of m w.spots ≡ Some x → spot_of n w.spots ≡ Some y
-    → x.key ≡ y.key → x.place < y.place → NextBefore n y w
+      → x.key ≡ y.key → x.place < y.place → NextBefore n y w
 
 -- whether an arena is in use: its key is that of some spot
 abbrev pub is_used : ℕ → List Spot → Bool

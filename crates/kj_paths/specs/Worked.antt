@@ -15,7 +15,7 @@ use Rattle.kj_paths.specs.Rows.{over_store}
 abbrev pub worked_setting : Setting
 worked_setting =
     over_store arenas_fit
-        (scripted (body 1 (Later 10 ∷ Then 11 10 None None ∷ []) (promised 11) ∷ []))
+    (scripted (body 1 (Later 10 ∷ Then 11 10 None None ∷ []) (promised 11) ∷ []))
 
 abbrev pub worked_limits : Limits
 worked_limits = record { slots = 24; names = 8 }
