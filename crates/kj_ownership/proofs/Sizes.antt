@@ -113,8 +113,8 @@ close_few s o waits =
     let ns = frees_in (drop (length s.past) (close s).past) in
     let times_is = close_answers s o waits in
     let l = few_live s.world.nodes ns
-        (apart_numbers ns (λ m. subst (λ (k : ℕ). k ≤ 1) (sym (times_is m)) (numbers_apart s o.recorded m)))
-        (λ m i. number_live m s.world.nodes (among m ns (numbers s.world.nodes) (is_in m (numbers s.world.nodes)) refl (times_is m) i)) in
+    (apart_numbers ns (λ m. subst (λ (k : ℕ). k ≤ 1) (sym (times_is m)) (numbers_apart s o.recorded m)))
+    (λ m i. number_live m s.world.nodes (among m ns (numbers s.world.nodes) (is_in m (numbers s.world.nodes)) refl (times_is m) i)) in
     let room = o.room in
     omega (arith, l, room)
   where

@@ -6,8 +6,8 @@ use Rattle.kj_base.specs.Record.{Item, Free}
 use Rattle.promise_commands.specs.Telling.{Telling}
 use Rattle.kj_model.specs.World.{State, Setting, Asked, Ended}
 use Rattle.kj_model.specs.Apply.{Refused}
-use Rattle.kj_model.specs.Calls.{Turned, Fired, Idle, NoMemory, Stopped, close}
-use Rattle.kj_model.specs.Log.{Body, LogLine, Logged, Told as ToldLine, all_taken, applied_line, asks_taken, each_ask, each_end, each_gone, ends_taken, gone_taken, log_closed, logged, refused_line, run_rest, scripted, told_since, turned_line, RefusedAt, WasIdle}
+use Rattle.kj_model.specs.Calls.{Turned, Fired, Idle, NoMemory, Stopped, Waited, close}
+use Rattle.kj_model.specs.Log.{Body, LogLine, Logged, Told as ToldLine, all_taken, applied_line, asks_taken, each_ask, each_end, each_gone, ends_taken, gone_taken, log_closed, logged, refused_line, run_rest, scripted, told_since, turned_line, wait_line, waited_line, RefusedAt, WasIdle}
 use Rattle.kj_model.specs.Text.{log_text, line_text}
 use Rattle.loop_core.specs.Calls.{CallIs, Closes}
 use Rattle.promise_commands.specs.Scripts.{numbered_of}
@@ -118,6 +118,14 @@ command_refused bodies New told old new l r number refused none more p =
     subst (λ (o : Option Refused). Shows bodies New told new (all_taken (logged l r.0 (refused_line number o)))) (sym p.reply_is)
     (taken_after bodies New told new (logged l r.0 (RefusedAt number refused ∷ [])) none
     (line_printed bodies New told old new l r.0 (RefusedAt number refused) more p.shows))
+
+-- a wait, with its line
+pub waited_printed : (bodies : List Body) (New : State → Type 0) (told : Telling) (old new : List ℕ) (l : Logged) (r : State × Waited) (number name : ℕ) (waited : Waited) → ((s : State) → New s → HasNoneListed s.world)
+    → new ≡ old ++ line_text (wait_line number name waited) ++ 10 ∷ [] → Printed bodies New told old l r waited → Shows bodies New told new (waited_line number name r l)
+waited_printed bodies New told old new l r number name waited none more p =
+    subst (λ (w : Waited). Shows bodies New told new (all_taken (logged l r.0 (wait_line number name w ∷ [])))) (sym p.reply_is)
+    (taken_after bodies New told new (logged l r.0 (wait_line number name waited ∷ [])) none
+    (line_printed bodies New told old new l r.0 (wait_line number name waited) more p.shows))
 
 -- the closing ends the log
 pub closing_printed : (bodies : List Body) (Old : State → Type 0) (freed : List ℕ) (a b c : Telling) (old new : List ℕ) (l : Logged) → Closes Old freed a b → Prints b c old new → Shows bodies Old a old l → new ≡ log_text (log_closed l)

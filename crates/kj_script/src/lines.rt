@@ -1,7 +1,7 @@
 //! The lines of a script.
 ghost use Rattle.std.specs.Prelude.{◌≡◌, [], ◌∷◌, List, OnOk, IfOk};
 ghost use Rattle.kj_model.specs.Calls.{turn};
-ghost use Rattle.kj_model.specs.Log.{Body, Do, Logged, WasIdle, log_line, run_lines, setting_of, turned_line};
+ghost use Rattle.kj_model.specs.Log.{Body, Do, Logged, Wait, WasIdle, log_line, run_lines, setting_of, turned_line};
 ghost use Rattle.loop_core.specs.Loops.{StandsAt};
 ghost use Rattle.promise_commands.specs.Commands.{command_of};
 ghost use Rattle.promise_commands.specs.Scripts.{line_of};
@@ -9,12 +9,12 @@ ghost use Rattle.promise_steps.specs.Kept.{told_by};
 ghost use Rattle.promise_turns.specs.Turns.{turned_of};
 ghost use Rattle.kj_script.specs.Running.{Shows};
 
-use kj_base::{Bytes, NoMemory};
+use kj_base::{Bytes, Name, NoMemory};
 use loop_core::{LoopOver, Turned};
 use promise_commands::{Command, Line, NumberedLine};
 use promise_names::Names;
 use promise_nodes::Nodes;
-use promise_steps::{ScriptSteps, print_idle, print_refused};
+use promise_steps::{ScriptSteps, print_idle, print_refused, print_waited};
 
 // A command, with what it told, and why it was refused.
 fn do_command<N: Nodes + Drop, M: Names + Drop>(
@@ -106,6 +106,27 @@ fn do_run<N: Nodes + Drop, M: Names + Drop>(
     Ok(())
 }
 
+// A wait of so many turns at most, with what it told, and how it ended.
+fn do_wait<N: Nodes + Drop, M: Names + Drop>(
+    over: &mut LoopOver<N, M>,
+    steps: &mut ScriptSteps,
+    text: &mut Bytes,
+    number: u32,
+    name: Name,
+    turns: u32,
+) -> Result<(), NoMemory>
+    ensures { OnOk result ((bodies : List Body) (l : Logged)
+        → Shows bodies (StandsAt N.rule (N.stands over.old.nodes) (M.stands over.old.names))
+        (told_by steps.old) text.old l
+        → Shows bodies (StandsAt N.rule (N.stands over.new.nodes) (M.stands over.new.names))
+        (told_by steps.new) text.new
+        (log_line (setting_of N.rule bodies) number (Wait name.0 turns) l)) }
+{
+    let waited = over.wait(name, turns, steps);
+    steps.drain_into(text)?;
+    print_waited(text, number, name, waited)
+}
+
 /// One line of a script, and what it did in the log.
 pub(crate) fn do_line<N: Nodes + Drop, M: Names + Drop>(
     over: &mut LoopOver<N, M>,
@@ -125,5 +146,6 @@ pub(crate) fn do_line<N: Nodes + Drop, M: Names + Drop>(
         Line::Do(command) => do_command(over, steps, text, number, command),
         Line::Turn => do_turn(over, steps, text),
         Line::Run(turns) => do_run(over, steps, text, turns),
+        Line::Wait(name, turns) => do_wait(over, steps, text, number, name, turns),
     }
 }

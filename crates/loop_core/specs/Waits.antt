@@ -1,16 +1,16 @@
 -- The turns of a wait, against the definitions.
 use Rattle.std.specs.Prelude.{◌≡◌, ℕ, Some, Bool, true, false}
-use Rattle.promise_commands.specs.Refusals.{refused_of}
-use Rattle.kj_model.specs.Calls.{Waited, Done, NotThere, WaitIdle, WaitNoMemory, WaitStopped, Turns, awaited_freed, let_go, lost, wait_done, wait_valued}
+use Rattle.kj_model.specs.Calls.{Waited, WaitIdle, WaitNoMemory, Turns, awaited_freed, let_go, lost, wait_done, wait_valued}
 use Rattle.kj_model.specs.Changes.{silent}
 use Rattle.kj_model.specs.Value.{value}
 use Rattle.kj_model.specs.World.{World, State, Setting, Promise, held_at}
 use Rattle.kj_ownership.specs.Kept.{Rests}
+use Rattle.promise_commands.specs.declared.waited.Waited.{Waited as WaitedCase}
+use Rattle.promise_commands.specs.declared.waited.Waited.TheVariants.{NoMemory as NoMemoryCase}
+use Rattle.promise_commands.specs.Waits.{waited_of}
 use Rattle.promise_walks.specs.Walks.{Both}
 use Rattle.promise_walks.specs.Values.{Rule}
 use Rattle.loop_core.specs.Loops.{StandsAt, TakesNoMore}
-use Rattle.loop_core.specs.declared.waited.Waited.{Waited as WaitedCase}
-use Rattle.loop_core.specs.declared.waited.Waited.TheVariants.{Done as DoneCase, Idle as IdleCase, Turns as TurnsCase, Refused as RefusedCase, NoMemory as NoMemoryCase, Stopped as StoppedCase}
 use Rattle.loop_core.specs.declared.waiting.WaitEnd.{WaitEnd}
 use Rattle.loop_core.specs.declared.waiting.WaitEnd.TheVariants.{Ready, Idle, AllMade, NoMemory}
 
@@ -55,15 +55,6 @@ awaited_gone s = awaited_freed s.world.awaited s
 -- the tree of a wait is evaluated and freed
 abbrev pub valued_at : ℕ → Setting → State → State × Waited
 valued_at root setting s = let r = value setting root s in wait_valued r.1 r.0
-
--- the answer that each variant is
-abbrev pub waited_of : WaitedCase → Waited
-waited_of (DoneCase outcome) = Done outcome
-waited_of IdleCase = WaitIdle
-waited_of TurnsCase = Turns
-waited_of (RefusedCase refused) = NotThere (refused_of refused)
-waited_of NoMemoryCase = WaitNoMemory
-waited_of StoppedCase = WaitStopped
 
 -- a state with this answer
 abbrev pub waited_as : WaitedCase → State → State × Waited

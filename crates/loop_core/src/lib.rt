@@ -7,10 +7,9 @@ mod frees;
 mod holding;
 mod over;
 mod running;
-mod waited;
 mod waiting;
 mod waits;
 
 pub use over::{Loop, LoopOver};
+pub use promise_commands::Waited;
 pub use promise_turns::Turned;
-pub use waited::Waited;

@@ -10,10 +10,9 @@ ghost use Rattle.loop_core.specs.Waits.{MayHold, StandsIn, Waits, lacked_waiting
 use crate::holding::{
     awaited_over, free_over, held_over, hold_over, let_go_over, lose_over, promise_of,
 };
-use crate::waited::Waited;
 use crate::waiting::{WaitEnd, wait_turns};
 use kj_base::{Link, Name};
-use promise_commands::{Refused, Steps};
+use promise_commands::{Refused, Steps, Waited};
 use promise_eval::Evaluator;
 use promise_names::Names;
 use promise_nodes::Nodes;

@@ -4,3 +4,4 @@ pub mod Refusals
 pub mod Scripts
 pub mod Script
 pub mod Telling
+pub mod Waits

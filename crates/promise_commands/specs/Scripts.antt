@@ -1,9 +1,9 @@
 -- The scripts that the Rust types are.
 use Rattle.std.specs.Prelude.{map}
-use Rattle.kj_model.specs.Log.{Line, Do, Turn, RunTurns, Numbered, Body, Script}
+use Rattle.kj_model.specs.Log.{Line, Do, Turn, RunTurns, Wait, Numbered, Body, Script}
 use Rattle.promise_commands.specs.Commands.{command_of, action_of}
 use Rattle.promise_commands.specs.declared.script.Line.{Line as LineCase}
-use Rattle.promise_commands.specs.declared.script.Line.TheVariants.{Do as DoCase, Turn as TurnCase, Run as RunCase}
+use Rattle.promise_commands.specs.declared.script.Line.TheVariants.{Do as DoCase, Turn as TurnCase, Run as RunCase, Wait as WaitCase}
 use Rattle.promise_commands.specs.declared.script.NumberedLine.{NumberedLine}
 use Rattle.promise_commands.specs.Script.{Body as BodyCase, Script as ScriptCase}
 
@@ -12,6 +12,7 @@ abbrev pub line_of : LineCase → Line
 line_of (DoCase command) = Do (command_of command)
 line_of TurnCase = Turn
 line_of (RunCase turns) = RunTurns turns
+line_of (WaitCase name turns) = Wait name.0 turns
 
 -- a line with its number in the text
 abbrev pub numbered_of : NumberedLine → Numbered

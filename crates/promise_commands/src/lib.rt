@@ -7,6 +7,7 @@ mod refused;
 mod script;
 mod sources;
 mod steps;
+mod waited;
 
 pub use action::{Action, Commands, MAX_COMMANDS};
 pub use command::Command;
@@ -14,3 +15,4 @@ pub use refused::Refused;
 pub use script::{Line, NumberedLine};
 pub use sources::{MAX_PARTS, Sources};
 pub use steps::Steps;
+pub use waited::Waited;

@@ -1,5 +1,6 @@
 //! The lines of a script that mean something outside the bodies of its steps.
 use crate::command::Command;
+use kj_base::Name;
 
 /// What one line outside a body does.
 #[derive(Drop)]
@@ -8,6 +9,8 @@ pub enum Line {
     Turn,
     /// So many turns, or until one finds the queue empty.
     Run(u32),
+    /// A wait for the promise of this name, of so many turns at most.
+    Wait(Name, u32),
 }
 
 /// A line with its number in the text, from 1, all lines counted.

@@ -1,8 +1,7 @@
 -- What lines are read as that aren't a script: the line at fault, and why.
-use Rattle.std.proofs.Common.{◌≡◌, ◌⊎◌, ℕ, ◌+◌, List, [], ◌∷◌, ◌++◌, Option, None, Some, Result, Ok, Err, Bool, true, false, cond, not, ◌&&◌, ◌||◌, refl, sym, ap, ◌∙◌, arith, length, inl, inr}
+use Rattle.std.proofs.Common.{◌≡◌, ◌⊎◌, ℕ, ◌+◌, List, [], ◌∷◌, ◌++◌, Option, None, Some, Result, Ok, Err, Bool, true, false, cond, ◌||◌, refl, sym, ap, ◌∙◌, arith, length, inl, inr}
 use Rattle.std.specs.Prelude.{codes, bytes_eq}
 use Rattle.std.proofs.lemmas.List.{append-nil}
-use Rattle.std.proofs.lemmas.Slice.Eq.{bytes_eq-Decides}
 use Rattle.kj_base.specs.declared.endings.Ending.TheVariants.{Input}
 use Rattle.promise_commands.specs.Script.{Script}
 use Rattle.promise_script.specs.declared.meaning.Meaning.{Meaning}
@@ -11,7 +10,7 @@ use Rattle.promise_script.specs.declared.reader.ReadRefused.{ReadRefused}
 use Rattle.promise_script.specs.declared.reader.ReadRefused.TheVariants.{Bad, NotBuilt, NoMemory}
 use Rattle.promise_script.specs.ScriptText.{first_word, lines_of}
 use Rattle.promise_script.specs.Decode.{and_then, text_read}
-use Rattle.promise_script.specs.Assembly.{Part, Reading, stood, part_closed, line_stood, unbuilt_command, unbuilt_here, refused_at, is_inside, ended, went_on, before_lines, script_read}
+use Rattle.promise_script.specs.Assembly.{Part, Reading, stood, part_closed, line_stood, unbuilt_command, refused_at, is_inside, ended, went_on, before_lines, script_read}
 use Rattle.promise_script.specs.Scripts.{IsScript, IsScriptText, BeginsScript, IsFaulty, IsUnclosed, unbuilt_commands, is_among, IsUnbuilt, IsBadLine, IsNotBuiltLine, IsReadAs}
 use Rattle.promise_script.proofs.Folds.{lines_stood, read_behind, none_behind, stood_more}
 use Rattle.promise_script.proofs.Pieces.{script_complete}
@@ -28,7 +27,7 @@ record Stopped (n : ℕ) (r : Reading) (lines : List (List ℕ)) (e : ReadRefuse
   whole : lines ≡ before ++ line ∷ behind
   stands : lines_stood n r before ≡ Some at
   none : line_stood (n + length before + 1) at line ≡ None
-  refused : e ≡ refused_at (n + length before + 1) (is_inside at.part) line
+  refused : e ≡ refused_at (n + length before + 1) line
 
 -- all lines stand, and a body is open
 record Opened (n : ℕ) (r : Reading) (lines : List (List ℕ)) (e : ReadRefused) : Type 0 where
@@ -62,7 +61,7 @@ stopped_more n r q x xs e first found =
       whole = ap (λ (ys : List (List ℕ)). x ∷ ys) found.whole;
       stands = ap (λ (o : Option Reading). and_then (λ p. lines_stood (n + 1) p found.before) o) first ∙ found.stands;
       none = ap (λ (k : ℕ). line_stood k found.at found.line) (sym place) ∙ found.none;
-      refused = found.refused ∙ ap (λ (k : ℕ). refused_at k (is_inside found.at.part) found.line) place;
+      refused = found.refused ∙ ap (λ (k : ℕ). refused_at k found.line) place;
     }
 
 opened_more : (n : ℕ) (r q : Reading) (x : List ℕ) (xs : List (List ℕ)) (e : ReadRefused) → line_stood (n + 1) r x ≡ Some q → Opened (n + 1) q xs e → Opened n r (x ∷ xs) e
@@ -75,10 +74,10 @@ opened_more n r q x xs e first found =
       refused = found.refused ∙ ap (λ (k : ℕ). Bad k) place;
     }
 
-stopped_here : (n : ℕ) (r : Reading) (x : List ℕ) (xs : List (List ℕ)) (e : ReadRefused) → line_stood (n + 1) r x ≡ None → failed (refused_at (n + 1) (is_inside r.part) x) ≡ failed e → Stopped n r (x ∷ xs) e
+stopped_here : (n : ℕ) (r : Reading) (x : List ℕ) (xs : List (List ℕ)) (e : ReadRefused) → line_stood (n + 1) r x ≡ None → failed (refused_at (n + 1) x) ≡ failed e → Stopped n r (x ∷ xs) e
 stopped_here n r x xs e none refused =
     let place : n + 1 ≡ n + 0 + 1 = omega arith in
-    let same : refused_at (n + 1) (is_inside r.part) x ≡ e = cc (refused) in
+    let same : refused_at (n + 1) x ≡ e = cc (refused) in
     record {
       before = [];
       line = x;
@@ -87,7 +86,7 @@ stopped_here n r x xs e none refused =
       whole = refl;
       stands = refl;
       none = ap (λ (k : ℕ). line_stood k r x) (sym place) ∙ none;
-      refused = sym same ∙ ap (λ (k : ℕ). refused_at k (is_inside r.part) x) place;
+      refused = sym same ∙ ap (λ (k : ℕ). refused_at k x) place;
     }
 
 fault_found : (lines : List (List ℕ)) (n : ℕ) (r : Reading) (e : ReadRefused) → script_read n r lines ≡ Err e → Stopped n r lines e ⊎ Opened n r lines e
@@ -100,7 +99,7 @@ fault_found (x ∷ xs) n r e refused = by (λ q h. fault_found xs (n + 1) q e h)
 
     by : ((q : Reading) → script_read (n + 1) q xs ≡ Err e → Stopped (n + 1) q xs e ⊎ Opened (n + 1) q xs e)
         → (o : Option Reading) → line_stood (n + 1) r x ≡ o
-        → went_on o (Err (refused_at (n + 1) (is_inside r.part) x)) (λ q. script_read (n + 1) q xs) ≡ Err e → Stopped n r (x ∷ xs) e ⊎ Opened n r (x ∷ xs) e
+        → went_on o (Err (refused_at (n + 1) x)) (λ q. script_read (n + 1) q xs) ≡ Err e → Stopped n r (x ∷ xs) e ⊎ Opened n r (x ∷ xs) e
     by rest None first refused = inl (stopped_here n r x xs e first refused)
     by rest (Some q) first refused = more q first (rest q refused)
 
@@ -117,8 +116,8 @@ can_end k q (Some part) at =
     let read : text_read (codes "input") ≡ Some (Close Input) = refl in (
       codes "input" ∷ [],
       record { limits = q.limits; bodies = q.bodies ++ record { step = part.step; action = record { commands = part.commands; ending = Input } } ∷ []; lines = q.lines },
-      ap (λ (o : Option Meaning). went_on (and_then (λ m. stood (k + 1) m q) o) (Err (refused_at (k + 1) (is_inside q.part) (codes "input"))) (λ r. script_read (k + 1) r [])) read
-          ∙ ap (λ (o : Option Part). went_on (part_closed Input o q) (Err (refused_at (k + 1) (is_inside q.part) (codes "input"))) (λ r. script_read (k + 1) r [])) at,
+      ap (λ (o : Option Meaning). went_on (and_then (λ m. stood (k + 1) m q) o) (Err (refused_at (k + 1) (codes "input"))) (λ r. script_read (k + 1) r [])) read
+          ∙ ap (λ (o : Option Part). went_on (part_closed Input o q) (Err (refused_at (k + 1) (codes "input"))) (λ r. script_read (k + 1) r [])) at,
     )
 
 stood_begins : (lines : List (List ℕ)) (q : Reading) → lines_stood 0 before_lines lines ≡ Some q → BeginsScript lines
@@ -168,25 +167,6 @@ unbuilt_same : (w : List ℕ) → unbuilt_command w ≡ is_among unbuilt_command
 unbuilt_same w =
     chained (bytes_eq w (codes "add")) (bytes_eq w (codes "wrap")) (bytes_eq w (codes "ask")) (bytes_eq w (codes "begin")) (bytes_eq w (codes "stop")) (bytes_eq w (codes "reply"))
 
--- what is found of the word is what the line is
-unbuilt_sound : (before : List (List ℕ)) (line : List ℕ) (q : Reading) → lines_stood 0 before_lines before ≡ Some q → unbuilt_here (is_inside q.part) (first_word line) ≡ true → IsUnbuilt before line
-unbuilt_sound before line q stands here = by (unbuilt_command (first_word line)) (is_inside q.part) refl refl here
-  where
-    by : (a b : Bool) → unbuilt_command (first_word line) ≡ a → is_inside q.part ≡ b → (a || (not b && bytes_eq (first_word line) (codes "wait"))) ≡ true → IsUnbuilt before line
-    by true b word inside here = inl (sym (unbuilt_same (first_word line)) ∙ word)
-    by false true word inside here = absurd (cc (here))
-    by false false word inside here = inr ((bytes_eq-Decides (first_word line) (codes "wait")).0 here, closed_script before q stands inside)
-
-unbuilt_complete : (before : List (List ℕ)) (line : List ℕ) (q : Reading) → lines_stood 0 before_lines before ≡ Some q → IsUnbuilt before line → unbuilt_here (is_inside q.part) (first_word line) ≡ true
-unbuilt_complete before line q stands (inl word) =
-    ap (λ (b : Bool). b || (not (is_inside q.part) && bytes_eq (first_word line) (codes "wait"))) (unbuilt_same (first_word line) ∙ word)
-unbuilt_complete before line q stands (inr waits) = by (is_inside q.part) (unbuilt_command (first_word line)) refl
-  where
-    by : (b a : Bool) → is_inside q.part ≡ b → (a || (not b && bytes_eq (first_word line) (codes "wait"))) ≡ true
-    by true a inside = absurd (open_script before q stands inside waits.1.0 waits.1.1)
-    by false true inside = refl
-    by false false inside = (bytes_eq-Decides (first_word line) (codes "wait")).1 waits.0
-
 -- ---- both ways
 
 -- the line where the reading stops is the one at fault
@@ -206,16 +186,16 @@ Refusal text (NotBuilt n) = IsNotBuiltLine text n
 Refusal text NoMemory = ⊥
 
 stopped_means : (text : List ℕ) (e : ReadRefused) → Stopped 0 before_lines (lines_of text) e → Refusal text e
-stopped_means text e x = by e (unbuilt_here (is_inside x.at.part) (first_word x.line)) refl x.refused
+stopped_means text e x = by e (unbuilt_command (first_word x.line)) refl x.refused
   where
-    by : (d : ReadRefused) (b : Bool) → unbuilt_here (is_inside x.at.part) (first_word x.line) ≡ b → d ≡ cond b (NotBuilt (0 + length x.before + 1)) (Bad (0 + length x.before + 1)) → Refusal text d
+    by : (d : ReadRefused) (b : Bool) → unbuilt_command (first_word x.line) ≡ b → d ≡ cond b (NotBuilt (0 + length x.before + 1)) (Bad (0 + length x.before + 1)) → Refusal text d
     by (Bad n) true here same = absurd (cc (same))
     by (Bad n) false here same =
         let n_is : n ≡ 0 + length x.before + 1 = cc (same) in
-        inl (x.before, x.line, stopped_faulty (lines_of text) e x n n_is, λ unbuilt. let other : true ≡ false = sym (unbuilt_complete x.before x.line x.at x.stands unbuilt) ∙ here in cc (other))
+        inl (x.before, x.line, stopped_faulty (lines_of text) e x n n_is, λ unbuilt. let other : true ≡ false = sym unbuilt ∙ sym (unbuilt_same (first_word x.line)) ∙ here in cc (other))
     by (NotBuilt n) true here same =
         let n_is : n ≡ 0 + length x.before + 1 = cc (same) in
-        (x.before, x.line, stopped_faulty (lines_of text) e x n n_is, unbuilt_sound x.before x.line x.at x.stands here)
+        (x.before, x.line, stopped_faulty (lines_of text) e x n n_is, sym (unbuilt_same (first_word x.line)) ∙ here)
     by (NotBuilt n) false here same = absurd (cc (same))
     by NoMemory true here same = absurd (cc (same))
     by NoMemory false here same = absurd (cc (same))
@@ -246,7 +226,7 @@ read_means text (Err NoMemory) is = tt
 
 -- a line at fault is where the reading stops
 abbrev StopsAt : List (List ℕ) → ℕ → List (List ℕ) → List ℕ → Type 0
-StopsAt lines n before line = (q : Reading) × (lines_stood 0 before_lines before ≡ Some q) × (script_read 0 before_lines lines ≡ failed (refused_at n (is_inside q.part) line))
+StopsAt lines n before line = (q : Reading) × (lines_stood 0 before_lines before ≡ Some q) × (script_read 0 before_lines lines ≡ failed (refused_at n line))
 
 faulty_stops : (lines : List (List ℕ)) (n : ℕ) (before : List (List ℕ)) (line : List ℕ) → IsFaulty lines n before line → StopsAt lines n before line
 faulty_stops lines n before line x =
@@ -257,22 +237,22 @@ faulty_stops lines n before line x =
       ap (λ (xs : List (List ℕ)). script_read 0 before_lines xs) x.whole
           ∙ read_behind before (line ∷ x.behind) 0 before_lines found.0 found.1
           ∙ by found.0 found.1 (line_stood (0 + length before + 1) found.0 line) refl
-          ∙ ap (λ (k : ℕ). failed (refused_at k (is_inside found.0.part) line)) place,
+          ∙ ap (λ (k : ℕ). failed (refused_at k line)) place,
     )
   where
     by : (q : Reading) → lines_stood 0 before_lines before ≡ Some q → (o : Option Reading) → line_stood (0 + length before + 1) q line ≡ o
-        → went_on o (failed (refused_at (0 + length before + 1) (is_inside q.part) line)) (λ r. script_read (0 + length before + 1) r x.behind) ≡ failed (refused_at (0 + length before + 1) (is_inside q.part) line)
+        → went_on o (failed (refused_at (0 + length before + 1) line)) (λ r. script_read (0 + length before + 1) r x.behind) ≡ failed (refused_at (0 + length before + 1) line)
     by q stands None e = refl
     by q stands (Some r) e = absurd (x.stops (stood_begins (before ++ line ∷ []) r (stood_more before line 0 before_lines q stands ∙ e)))
 
 bad_read : (text : List ℕ) (n : ℕ) → IsBadLine text n → script_read 0 before_lines (lines_of text) ≡ failed (Bad n)
 bad_read text n (inl (before, line, faulty, built)) =
     let found = faulty_stops (lines_of text) n before line faulty in
-    found.2 ∙ by found.0 found.1 (unbuilt_here (is_inside found.0.part) (first_word line)) refl
+    found.2 ∙ by (unbuilt_command (first_word line)) refl
   where
-    by : (q : Reading) → lines_stood 0 before_lines before ≡ Some q → (b : Bool) → unbuilt_here (is_inside q.part) (first_word line) ≡ b → failed (cond b (NotBuilt n) (Bad n)) ≡ failed (Bad n)
-    by q stands true e = absurd (built (unbuilt_sound before line q stands e))
-    by q stands false e = refl
+    by : (b : Bool) → unbuilt_command (first_word line) ≡ b → failed (cond b (NotBuilt n) (Bad n)) ≡ failed (Bad n)
+    by true e = absurd (built (sym (unbuilt_same (first_word line)) ∙ e))
+    by false e = refl
 bad_read text n (inr x) = by (lines_of text) x
   where
     end : (lines : List (List ℕ)) (q : Reading) → lines_stood 0 before_lines lines ≡ Some q → IsUnclosed lines n → (b : Bool) → is_inside q.part ≡ b
@@ -286,7 +266,7 @@ bad_read text n (inr x) = by (lines_of text) x
 not_built_read : (text : List ℕ) (n : ℕ) → IsNotBuiltLine text n → script_read 0 before_lines (lines_of text) ≡ failed (NotBuilt n)
 not_built_read text n (before, line, faulty, unbuilt) =
     let found = faulty_stops (lines_of text) n before line faulty in
-    found.2 ∙ ap (λ (b : Bool). failed (cond b (NotBuilt n) (Bad n))) (unbuilt_complete before line found.0 found.1 unbuilt)
+    found.2 ∙ ap (λ (b : Bool). failed (cond b (NotBuilt n) (Bad n))) (unbuilt_same (first_word line) ∙ unbuilt)
 
 -- a text is read as one thing, memory apart
 means_read : (text : List ℕ) (r : Result Script ReadRefused) → IsReadAs text r → (r ≡ Err NoMemory → ⊥) → script_read 0 before_lines (lines_of text) ≡ r

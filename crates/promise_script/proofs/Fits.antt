@@ -5,11 +5,11 @@ use Rattle.std.specs.List.{All as EachOf}
 use Rattle.std.proofs.lemmas.List.Elements.{All-append, All-push}
 use Rattle.kj_base.specs.declared.numbers.Limits.{Limits}
 use Rattle.promise_commands.specs.declared.script.Line.{Line}
-use Rattle.promise_commands.specs.declared.script.Line.TheVariants.{Do as DoLine, Turn as TurnLine, Run as RunLine}
+use Rattle.promise_commands.specs.declared.script.Line.TheVariants.{Do as DoLine, Turn as TurnLine, Run as RunLine, Wait as WaitLine}
 use Rattle.promise_commands.specs.declared.script.NumberedLine.{NumberedLine}
 use Rattle.promise_commands.specs.Script.{Script}
 use Rattle.promise_script.specs.declared.meaning.Meaning.{Meaning}
-use Rattle.promise_script.specs.declared.meaning.Meaning.TheVariants.{Nothing, Limits as LimitsLine, Do, Turn, Run, Step, Close}
+use Rattle.promise_script.specs.declared.meaning.Meaning.TheVariants.{Nothing, Limits as LimitsLine, Do, Turn, Run, Wait, Step, Close}
 use Rattle.promise_script.specs.declared.reader.ReadRefused.{ReadRefused}
 use Rattle.promise_script.specs.ScriptText.{LimitsFit, MeaningFits, Means, lines_of}
 use Rattle.promise_script.specs.Scripts.{Piece, Remark, Stands, Bodied, line_meaning, piece_meanings, limits_meanings, piece_lines, lines_in, MeanAll, IsScript, LineFits, ScriptFits, IsReadAs}
@@ -20,6 +20,7 @@ means_fits text (LimitsLine l) means = means.0
 means_fits text (Do c) means = means.0
 means_fits text Turn means = means.0
 means_fits text (Run n) means = means.0
+means_fits text (Wait p n) means = means.0
 means_fits text (Step s) means = means.0
 means_fits text (Close x) means = means.0
 
@@ -55,6 +56,7 @@ line_fits : (line : Line) → MeaningFits (line_meaning line) → LineFits line
 line_fits (DoLine c) fit = tt
 line_fits TurnLine fit = tt
 line_fits (RunLine n) fit = fit
+line_fits (WaitLine p n) fit = fit.1
 
 piece_fits : (n : ℕ) (p : Piece) → AllFit (piece_meanings p) → EachOf Fits (piece_lines n p)
 piece_fits n Remark fit = no_lines

@@ -41,7 +41,7 @@ read_behind (x ∷ xs) ys n r q e = by (λ p h. read_behind xs ys (n + 1) p q h)
   where
     by : ((p : Reading) → lines_stood (n + 1) p xs ≡ Some q → script_read (n + 1) p (xs ++ ys) ≡ script_read (n + 1 + length xs) q ys)
         → (o : Option Reading) → and_then (λ p. lines_stood (n + 1) p xs) o ≡ Some q
-        → went_on o (Err (refused_at (n + 1) (is_inside r.part) x)) (λ p. script_read (n + 1) p (xs ++ ys)) ≡ script_read (n + length (x ∷ xs)) q ys
+        → went_on o (Err (refused_at (n + 1) x)) (λ p. script_read (n + 1) p (xs ++ ys)) ≡ script_read (n + length (x ∷ xs)) q ys
     by rest None e = absurd (cc (e))
     by rest (Some p) e =
         let place : n + 1 + length xs ≡ n + length (x ∷ xs) = omega arith in
@@ -54,7 +54,7 @@ none_behind (x ∷ xs) ys n r s e read = by (λ p h. none_behind xs ys (n + 1) p
   where
     by : ((p : Reading) → lines_stood (n + 1) p xs ≡ None → script_read (n + 1) p (xs ++ ys) ≡ Ok s → ⊥)
         → (o : Option Reading) → and_then (λ p. lines_stood (n + 1) p xs) o ≡ None
-        → went_on o (Err (refused_at (n + 1) (is_inside r.part) x)) (λ p. script_read (n + 1) p (xs ++ ys)) ≡ Ok s → ⊥
+        → went_on o (Err (refused_at (n + 1) x)) (λ p. script_read (n + 1) p (xs ++ ys)) ≡ Ok s → ⊥
     by rest None e read = cc (read)
     by rest (Some p) e read = rest p e read
 

@@ -7,14 +7,14 @@ use Rattle.kj_base.specs.declared.numbers.StepId.{StepId}
 use Rattle.kj_base.specs.declared.endings.Ending.{Ending}
 use Rattle.promise_commands.specs.declared.command.Command.{Command}
 use Rattle.promise_commands.specs.declared.script.Line.{Line}
-use Rattle.promise_commands.specs.declared.script.Line.TheVariants.{Do as DoLine, Turn as TurnLine, Run as RunLine}
+use Rattle.promise_commands.specs.declared.script.Line.TheVariants.{Do as DoLine, Turn as TurnLine, Run as RunLine, Wait as WaitLine}
 use Rattle.promise_commands.specs.declared.script.NumberedLine.{NumberedLine}
 use Rattle.promise_commands.specs.Script.{Body, Script}
 use Rattle.promise_script.specs.declared.bodies.Inside.{Inside}
 use Rattle.promise_script.specs.declared.bodies.Inside.TheVariants.{Nothing as NothingInside, Do as DoInside, Close as CloseInside}
 use Rattle.promise_commands.specs.declared.action.TheConstants.{MAX_COMMANDS}
 use Rattle.promise_script.specs.declared.meaning.Meaning.{Meaning}
-use Rattle.promise_script.specs.declared.meaning.Meaning.TheVariants.{Nothing, Limits as LimitsLine, Do, Turn, Run, Step, Close}
+use Rattle.promise_script.specs.declared.meaning.Meaning.TheVariants.{Nothing, Limits as LimitsLine, Do, Turn, Run, Wait, Step, Close}
 use Rattle.promise_script.specs.declared.reader.ReadRefused.{ReadRefused}
 use Rattle.promise_script.specs.declared.kept.Kept.{Kept}
 use Rattle.promise_script.specs.declared.kept.Open.{Open}
@@ -158,6 +158,8 @@ meaning_next octets n place Turn text texts k r read there keeps =
     line_next octets n TurnLine text texts k.started r.started k.limits r.limits k.spots r.bodies r.lines k.body r.part keeps
 meaning_next octets n place (Run x) text texts k r read there keeps =
     line_next octets n (RunLine x) text texts k.started r.started k.limits r.limits k.spots r.bodies r.lines k.body r.part keeps
+meaning_next octets n place (Wait p x) text texts k r read there keeps =
+    line_next octets n (WaitLine p x) text texts k.started r.started k.limits r.limits k.spots r.bodies r.lines k.body r.part keeps
 meaning_next octets n place (Step x) text texts k r read there keeps =
     step_next octets n place x text texts k.started r.started k.limits r.limits k.spots r.bodies r.lines k.body r.part there keeps
 meaning_next octets n place (Close x) text texts k r read there keeps =
@@ -216,7 +218,7 @@ module _ (octets : List ℕ) (k : Kept) (number place : ℕ) (rest text behind :
       (subst (λ (ts : List (List ℕ)). Keeps octets k reads.reading ts) lines reads.keeps)
 
   abbrev went : Option Reading → Result Script ReadRefused
-  went o = went_on o (Err (refused_at (number + 1) (is_inside reads.reading.part) text)) (λ q. script_read (number + 1) q (lines_of behind))
+  went o = went_on o (Err (refused_at (number + 1) text)) (λ q. script_read (number + 1) q (lines_of behind))
 
   read_on : went (line_stood (number + 1) reads.reading text) ≡ script_read 0 before_lines (lines_of octets)
   read_on = sym (ap (λ (ts : List (List ℕ)). script_read number reads.reading ts) lines) ∙ reads.read
@@ -239,17 +241,5 @@ module _ (octets : List ℕ) (k : Kept) (number place : ℕ) (rest text behind :
       roomy (inl was) = omega (arith, shorter, reads.inside_room was)
       roomy (inr long) = omega (arith, parts, long, reads.room)
 
-  pub reads_refused : (inside : Bool) → inside ≡ is_some k.body → kept_stood place k text ≡ None
-      → script_read 0 before_lines (lines_of octets) ≡ Err (refused_at (number + 1) inside text)
-  reads_refused inside same e =
-      sym read_on ∙ ap went (next.stops e)
-      ∙ ap (λ (b : Bool). refused (refused_at (number + 1) b text)) (sym (same ∙ body_open k.body reads.reading.part (lines_of rest) reads.keeps.body))
-    where
-      refused : ReadRefused → Result Script ReadRefused
-      refused x = Err x
-
-      body_open : (o : Option Open) (p : Option Part) (texts : List (List ℕ)) → IsOpen octets o p texts → is_some o ≡ is_inside p
-      body_open None None texts on = refl
-      body_open None (Some part) texts on = absurd on
-      body_open (Some x) None texts on = absurd on
-      body_open (Some x) (Some part) texts on = refl
+  pub reads_refused : kept_stood place k text ≡ None → script_read 0 before_lines (lines_of octets) ≡ Err (refused_at (number + 1) text)
+  reads_refused e = sym read_on ∙ ap went (next.stops e)

@@ -14,7 +14,7 @@ use Rattle.kj_base.specs.declared.endings.Ending.TheVariants.{Value, Throw, Prom
 use Rattle.promise_commands.specs.declared.command.Command.{Command}
 use Rattle.promise_commands.specs.declared.command.Command.TheVariants.{Now, Broken, Later, Last, Pair, Then, Chain, Eager, Fork, Branch, Race, All, Fast, Fulfil, Reject, DropCell, Detach, NewSet, OnEmpty, Clear, NewCanceler, Cancel, Drop}
 use Rattle.promise_script.specs.declared.meaning.Meaning.{Meaning}
-use Rattle.promise_script.specs.declared.meaning.Meaning.TheVariants.{Nothing, Limits as LimitsLine, Do, Turn, Run, Step, Close}
+use Rattle.promise_script.specs.declared.meaning.Meaning.TheVariants.{Nothing, Limits as LimitsLine, Do, Turn, Run, Wait, Step, Close}
 use Rattle.promise_script.specs.declared.verbs.Maker.{Maker}
 use Rattle.promise_script.specs.declared.verbs.Maker.TheVariants.{Now as NowWord, Fail as FailWord, Later as LaterWord, Last as LastWord, Pair as PairWord, Empty as EmptyWord}
 use Rattle.promise_script.specs.declared.verbs.Combiner.{Combiner}
@@ -22,7 +22,7 @@ use Rattle.promise_script.specs.declared.verbs.Combiner.TheVariants.{Then as The
 use Rattle.promise_script.specs.declared.verbs.User.{User}
 use Rattle.promise_script.specs.declared.verbs.User.TheVariants.{Fulfil as FulfilWord, Reject as RejectWord, DropCell as DropCellWord, Detach as DetachWord, Set as SetWord, Clear as ClearWord, Canceler as CancelerWord, Cancel as CancelWord, Drop as DropWord}
 use Rattle.promise_script.specs.declared.verbs.Verb.{Verb}
-use Rattle.promise_script.specs.declared.verbs.Verb.TheVariants.{Make, Combine, Use, Limits as LimitsWord, Turn as TurnWord, Run as RunWord, Step as StepWord, Value as ValueWord, Throw as ThrowWord, Promise as PromiseWord, Input as InputWord}
+use Rattle.promise_script.specs.declared.verbs.Verb.TheVariants.{Make, Combine, Use, Limits as LimitsWord, Turn as TurnWord, Run as RunWord, Wait as WaitWord, Step as StepWord, Value as ValueWord, Throw as ThrowWord, Promise as PromiseWord, Input as InputWord}
 use Rattle.promise_script.specs.ScriptText.{name_word, exception_words, command_words, meaning_words, NameFits, StepFits, WordsFit, NamesFit, CommandFits, LimitsFit, MeaningFits, words_of, is_remark, Spells, Means}
 use Rattle.promise_script.specs.Decode.{given, both, or_else, and_then, number_read, to_step, words_read, names_read, exception_read, one_name, two_names, one_step, two_steps, name_and, maker_read, combiner_read, user_read, other_read, verb_read, made_by, combined_by, used_by, limits_fit, limits_of, limits_read, one_number, turns_read, bare, meaning_read, words_meaning, text_read}
 use Rattle.promise_script.proofs.Numbers.{read_is, read_sound}
@@ -75,6 +75,7 @@ verb_text (Use v) = user_text v
 verb_text LimitsWord = codes "limits"
 verb_text TurnWord = codes "turn"
 verb_text RunWord = codes "run"
+verb_text WaitWord = codes "wait"
 verb_text StepWord = codes "step"
 verb_text ValueWord = codes "value"
 verb_text ThrowWord = codes "throw"
@@ -82,7 +83,7 @@ verb_text PromiseWord = codes "promise"
 verb_text InputWord = codes "input"
 
 other_sound : (w : List ℕ) (v : Verb) → other_read w ≡ Some v → w ≡ verb_text v
-other_sound w v e = first_sound verb_text w (LimitsWord ∷ TurnWord ∷ RunWord ∷ StepWord ∷ ValueWord ∷ ThrowWord ∷ PromiseWord ∷ InputWord ∷ []) v e
+other_sound w v e = first_sound verb_text w (LimitsWord ∷ TurnWord ∷ RunWord ∷ WaitWord ∷ StepWord ∷ ValueWord ∷ ThrowWord ∷ PromiseWord ∷ InputWord ∷ []) v e
 
 either_some : {A : Type 0} (a b : Option A) (x : A) → or_else a b ≡ Some x → (a ≡ Some x) ⊎ (b ≡ Some x)
 either_some None b x e = inr e
@@ -328,6 +329,12 @@ turns_complete n fits =
     small : (k : ℕ) → k ≤ 1000000 → nat_lt 1000000 k ≡ false
     small k h = grind (arith, nat_tests)
 
+awaited_sound : Sound (name_and turns_read) (NameAndFits TurnsFit) (name_and_words number_words)
+awaited_sound = name_and_sound turns_read TurnsFit number_words turns_sound
+
+awaited_complete : Complete (name_and turns_read) (NameAndFits TurnsFit) (name_and_words number_words)
+awaited_complete = name_and_complete turns_read TurnsFit number_words turns_complete
+
 bare_said : (word : List ℕ) (x m : Meaning) (ps : List (List ℕ)) → MeaningFits x → word ∷ [] ≡ meaning_words x → bare x ps ≡ Some m → Said (word ∷ ps) m
 bare_said word x m [] fits text e = let same : x ≡ m = cc (e) in subst (λ (d : Meaning). Said (word ∷ []) d) same (fits, text)
 bare_said word x m (p ∷ ps) fits text e = absurd (cc (e))
@@ -344,6 +351,7 @@ meaning_said (Use v) ps m e = do_said (user_text v ∷ ps) m (used_by v ps) (use
 meaning_said LimitsWord ps m e = said_from limits_read LimitsFit limits_words (λ (l : Limits). LimitsLine l) (codes "limits") ps m limits_sound (λ l fits. fits) (λ l. refl) e
 meaning_said TurnWord ps m e = bare_said (codes "turn") Turn m ps tt refl e
 meaning_said RunWord ps m e = said_from turns_read TurnsFit number_words (λ (n : ℕ). Run n) (codes "run") ps m turns_sound (λ n fits. fits) (λ n. refl) e
+meaning_said WaitWord ps m e = said_from (name_and turns_read) (NameAndFits TurnsFit) (name_and_words number_words) (λ (p : Name × ℕ). Wait p.0 p.1) (codes "wait") ps m awaited_sound (λ p fits. fits) (λ p. refl) e
 meaning_said StepWord ps m e = said_from one_number NumberFits number_words (λ (n : ℕ). Step (to_step n)) (codes "step") ps m number_sound (λ n fits. fits) (λ n. refl) e
 meaning_said ValueWord ps m e = said_from words_read WordsFit words_words (λ (ws : List ℕ). Close (Value ws)) (codes "value") ps m words_sound (λ ws fits. fits) (λ ws. refl) e
 meaning_said ThrowWord ps m e = said_from exception_read CodeFits exception_words (λ (x : Exception). Close (Throw x)) (codes "throw") ps m exception_sound (λ x fits. fits) (λ x. refl) e
@@ -365,6 +373,7 @@ IsSaid (LimitsLine l) = Unit {0}
 IsSaid (Do c) = Unit {0}
 IsSaid Turn = Unit {0}
 IsSaid (Run n) = Unit {0}
+IsSaid (Wait p n) = Unit {0}
 IsSaid (Step s) = Unit {0}
 IsSaid (Close x) = Unit {0}
 
@@ -378,6 +387,7 @@ means_from text (LimitsLine l) e = words_said (words_of text) (LimitsLine l) e
 means_from text (Do c) e = words_said (words_of text) (Do c) e
 means_from text Turn e = words_said (words_of text) Turn e
 means_from text (Run n) e = words_said (words_of text) (Run n) e
+means_from text (Wait p n) e = words_said (words_of text) (Wait p n) e
 means_from text (Step s) e = words_said (words_of text) (Step s) e
 means_from text (Close x) e = words_said (words_of text) (Close x) e
 
@@ -429,6 +439,7 @@ letter_first (LimitsLine l) said = lit< tt
 letter_first (Do c) said = command_letter c
 letter_first Turn said = lit< tt
 letter_first (Run n) said = lit< tt
+letter_first (Wait p n) said = lit< tt
 letter_first (Step s) said = lit< tt
 letter_first (Close (Value ws)) said = lit< tt
 letter_first (Close (Throw x)) said = lit< tt
@@ -478,6 +489,7 @@ meaning_back (LimitsLine l) said fits = ap (λ (o : Option Limits). given Limits
 meaning_back (Do c) said fits = command_back c fits
 meaning_back Turn said fits = refl
 meaning_back (Run n) said fits = ap (λ (o : Option ℕ). given Run o) (turns_complete n fits)
+meaning_back (Wait p n) said fits = ap (λ (o : Option (Name × ℕ)). given (λ (q : Name × ℕ). Wait q.0 q.1) o) (awaited_complete (p, n) fits)
 meaning_back (Step s) said fits = ap (λ (o : Option ℕ). given (λ n. Step (to_step n)) o) (number_complete s.0 fits)
 meaning_back (Close (Value ws)) said fits = ap (λ (o : Option (List ℕ)). given (λ words. Close (Value words)) o) (words_complete ws fits)
 meaning_back (Close (Throw x)) said fits = ap (λ (o : Option Exception). given (λ y. Close (Throw y)) o) (exception_complete x fits)
@@ -500,6 +512,7 @@ text_complete text (LimitsLine l) spells = said_read text (LimitsLine l) tt spel
 text_complete text (Do c) spells = said_read text (Do c) tt spells
 text_complete text Turn spells = said_read text Turn tt spells
 text_complete text (Run n) spells = said_read text (Run n) tt spells
+text_complete text (Wait p n) spells = said_read text (Wait p n) tt spells
 text_complete text (Step s) spells = said_read text (Step s) tt spells
 text_complete text (Close x) spells = said_read text (Close x) tt spells
 
@@ -542,6 +555,7 @@ few_words (LimitsLine l) fits = lit≤ tt
 few_words (Do c) fits = command_few c fits
 few_words Turn fits = lit≤ tt
 few_words (Run n) fits = lit≤ tt
+few_words (Wait p n) fits = lit≤ tt
 few_words (Step s) fits = lit≤ tt
 few_words (Close (Value ws)) fits = omega (arith, length-map ws decimal, fits.0)
 few_words (Close (Throw x)) fits = lit≤ tt

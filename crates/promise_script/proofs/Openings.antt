@@ -5,9 +5,9 @@ use Rattle.kj_base.specs.declared.numbers.StepId.{StepId}
 use Rattle.kj_base.specs.declared.endings.Ending.{Ending}
 use Rattle.promise_commands.specs.declared.command.Command.{Command}
 use Rattle.promise_commands.specs.declared.script.Line.{Line}
-use Rattle.promise_commands.specs.declared.script.Line.TheVariants.{Do as DoLine, Turn as TurnLine, Run as RunLine}
+use Rattle.promise_commands.specs.declared.script.Line.TheVariants.{Do as DoLine, Turn as TurnLine, Run as RunLine, Wait as WaitLine}
 use Rattle.promise_script.specs.declared.meaning.Meaning.{Meaning}
-use Rattle.promise_script.specs.declared.meaning.Meaning.TheVariants.{Nothing, Limits as LimitsLine, Do, Turn, Run, Step, Close}
+use Rattle.promise_script.specs.declared.meaning.Meaning.TheVariants.{Nothing, Limits as LimitsLine, Do, Turn, Run, Wait, Step, Close}
 use Rattle.promise_script.specs.Decode.{text_read}
 use Rattle.promise_script.specs.Assembly.{Part, Reading, outside, with_line, part_commanded, part_closed, stood, line_stood, is_inside}
 use Rattle.promise_script.proofs.Meanings.{text_sound, then_some}
@@ -50,6 +50,7 @@ stood_opens n (LimitsLine l) r q e inside =
 stood_opens n (Do c) r q e inside = commanded_opens (Do c) n c r q r.part refl e inside
 stood_opens n Turn r q e inside = lined_opens Turn n TurnLine r q r.part e inside
 stood_opens n (Run k) r q e inside = lined_opens (Run k) n (RunLine k) r q r.part e inside
+stood_opens n (Wait p k) r q e inside = lined_opens (Wait p k) n (WaitLine p k) r q r.part e inside
 stood_opens n (Step s) r q e inside = inr (s, refl)
 stood_opens n (Close x) r q e inside = closed_opens (Close x) x r q r.part e inside
 

@@ -3,12 +3,12 @@ use Rattle.std.proofs.Common.{◌≡◌, ℕ, zero, suc, ◌<◌, ◌≤◌, ◌
 use Rattle.std.proofs.lemmas.List.{append_assoc, append-nil}
 use Rattle.kj_base.specs.declared.numbers.Limits.{Limits}
 use Rattle.promise_commands.specs.declared.script.Line.{Line}
-use Rattle.promise_commands.specs.declared.script.Line.TheVariants.{Do as DoLine, Turn as TurnLine, Run as RunLine}
+use Rattle.promise_commands.specs.declared.script.Line.TheVariants.{Do as DoLine, Turn as TurnLine, Run as RunLine, Wait as WaitLine}
 use Rattle.promise_commands.specs.declared.script.NumberedLine.{NumberedLine}
 use Rattle.promise_commands.specs.Script.{Body, Script, body_at, no_body}
 use Rattle.promise_commands.specs.declared.action.TheConstants.{MAX_COMMANDS}
 use Rattle.promise_script.specs.declared.meaning.Meaning.{Meaning}
-use Rattle.promise_script.specs.declared.meaning.Meaning.TheVariants.{Nothing, Limits as LimitsLine, Do, Turn, Run, Step, Close}
+use Rattle.promise_script.specs.declared.meaning.Meaning.TheVariants.{Nothing, Limits as LimitsLine, Do, Turn, Run, Wait, Step, Close}
 use Rattle.promise_script.specs.declared.reader.ReadRefused.{ReadRefused}
 use Rattle.promise_script.specs.declared.reader.ReadRefused.TheVariants.{Bad}
 use Rattle.promise_script.specs.declared.spots.Spot.{Spot}
@@ -49,6 +49,9 @@ added n Turn b l bs ls (Some part) q e = absurd (cc (e))
 added n (Run x) b l bs ls None q e =
     as_next (reading true l bs (ls ++ record { number = n; line = RunLine x } ∷ []) None) q (ls ++ record { number = n; line = RunLine x } ∷ []) false e refl refl
 added n (Run x) b l bs ls (Some part) q e = absurd (cc (e))
+added n (Wait p x) b l bs ls None q e =
+    as_next (reading true l bs (ls ++ record { number = n; line = WaitLine p x } ∷ []) None) q (ls ++ record { number = n; line = WaitLine p x } ∷ []) false e refl refl
+added n (Wait p x) b l bs ls (Some part) q e = absurd (cc (e))
 added n (Step x) b l bs ls None q e = as_next (reading true l bs ls (Some (record { step = x; commands = [] }))) q (ls ++ []) true e (sym (append-nil ls)) refl
 added n (Step x) b l bs ls (Some part) q e = absurd (cc (e))
 added n (Close x) b l bs ls None q e = absurd (cc (e))
@@ -83,12 +86,12 @@ lines_outside (text ∷ texts) n r s e = by (λ q h. lines_outside texts (n + 1)
         ∙ append_assoc r.lines (with_found found []) left ∙ ap (λ (ls : List NumberedLine). r.lines ++ ls) (found_behind found left)
 
     by : ((q : Reading) → script_read (n + 1) q texts ≡ Ok s → s.lines ≡ q.lines ++ lines_left (n + 1) (is_inside q.part) texts)
-        → (o : Option Meaning) → went_on (and_then (λ m. stood (n + 1) m r) o) (Err (refused_at (n + 1) (is_inside r.part) text)) (λ q. script_read (n + 1) q texts) ≡ Ok s
+        → (o : Option Meaning) → went_on (and_then (λ m. stood (n + 1) m r) o) (Err (refused_at (n + 1) text)) (λ q. script_read (n + 1) q texts) ≡ Ok s
         → s.lines ≡ r.lines ++ with_found (numbered (n + 1) (said_outside (is_inside r.part) o)) (lines_left (n + 1) (stays_inside (is_inside r.part) o) texts)
     by rest None e = absurd (cc (e))
     by rest (Some m) e = on (stood (n + 1) m r) refl e
       where
-        on : (p : Option Reading) → stood (n + 1) m r ≡ p → went_on p (Err (refused_at (n + 1) (is_inside r.part) text)) (λ q. script_read (n + 1) q texts) ≡ Ok s
+        on : (p : Option Reading) → stood (n + 1) m r ≡ p → went_on p (Err (refused_at (n + 1) text)) (λ q. script_read (n + 1) q texts) ≡ Ok s
             → s.lines ≡ r.lines ++ with_found (numbered (n + 1) (said_outside (is_inside r.part) (Some m))) (lines_left (n + 1) (stays_inside (is_inside r.part) (Some m)) texts)
         on None stands e = absurd (cc (e))
         on (Some q) stands e = behind m q (added (n + 1) m r.started r.limits r.bodies r.lines r.part q stands) (rest q e)
@@ -107,6 +110,7 @@ said_stays false (Some (LimitsLine x)) line e = refl
 said_stays false (Some (Do x)) line e = refl
 said_stays false (Some Turn) line e = refl
 said_stays false (Some (Run x)) line e = refl
+said_stays false (Some (Wait p x)) line e = refl
 said_stays false (Some (Step x)) line e = absurd (cc (e))
 said_stays false (Some (Close x)) line e = refl
 

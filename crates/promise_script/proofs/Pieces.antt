@@ -7,7 +7,7 @@ use Rattle.kj_base.specs.declared.numbers.StepId.{StepId}
 use Rattle.kj_base.specs.declared.numbers.Limits.{Limits}
 use Rattle.kj_base.specs.declared.endings.Ending.{Ending}
 use Rattle.promise_commands.specs.declared.command.Command.{Command}
-use Rattle.promise_commands.specs.declared.script.Line.TheVariants.{Do as DoLine, Turn as TurnLine, Run as RunLine}
+use Rattle.promise_commands.specs.declared.script.Line.TheVariants.{Do as DoLine, Turn as TurnLine, Run as RunLine, Wait as WaitLine}
 use Rattle.promise_commands.specs.declared.script.NumberedLine.{NumberedLine}
 use Rattle.promise_commands.specs.Script.{Body}
 use Rattle.promise_commands.specs.Script.{Script}
@@ -56,6 +56,7 @@ piece_stood Remark n b l bs ls fits =
 piece_stood (Stands (DoLine c)) n b l bs ls fits = ap (λ (xs : List Body). Some (reading true l xs (ls ++ piece_lines (n + 1) (Stands (DoLine c))) None)) (sym (append-nil bs))
 piece_stood (Stands TurnLine) n b l bs ls fits = ap (λ (xs : List Body). Some (reading true l xs (ls ++ piece_lines (n + 1) (Stands TurnLine)) None)) (sym (append-nil bs))
 piece_stood (Stands (RunLine k)) n b l bs ls fits = ap (λ (xs : List Body). Some (reading true l xs (ls ++ piece_lines (n + 1) (Stands (RunLine k))) None)) (sym (append-nil bs))
+piece_stood (Stands (WaitLine p k)) n b l bs ls fits = ap (λ (xs : List Body). Some (reading true l xs (ls ++ piece_lines (n + 1) (Stands (WaitLine p k))) None)) (sym (append-nil bs))
 piece_stood (Bodied s inside x) n b l bs ls fits =
     inside_stood inside (n + 1) true l bs ls s [] x (omega (arith, fits))
     ∙ ap (λ (ys : List NumberedLine). Some (reading true l (bs ++ body_with s (commands_of inside) x ∷ []) ys None)) (sym (append-nil ls))

@@ -27,11 +27,11 @@ refused x = Err x
 abbrev passed : Script → Result Script ReadRefused
 passed s = Ok s
 
-pub refused_as : (octets text : List ℕ) (n : ℕ) (inside : Bool) (x : ReadRefused) → x ≡ refused_at n inside text
-    → script_read 0 before_lines (lines_of octets) ≡ Err (refused_at n inside text) → IsKeptAs octets (Err x)
-refused_as octets text n inside (Bad m) same read = read ∙ ap refused (sym same)
-refused_as octets text n inside (NotBuilt m) same read = read ∙ ap refused (sym same)
-refused_as octets text n inside NoMemory same read = tt
+pub refused_as : (octets text : List ℕ) (n : ℕ) (x : ReadRefused) → x ≡ refused_at n text
+    → script_read 0 before_lines (lines_of octets) ≡ Err (refused_at n text) → IsKeptAs octets (Err x)
+refused_as octets text n (Bad m) same read = read ∙ ap refused (sym same)
+refused_as octets text n (NotBuilt m) same read = read ∙ ap refused (sym same)
+refused_as octets text n NoMemory same read = tt
 
 -- what was kept of a script is of its text
 pub is_text : (octets : List ℕ) (k : Kept) → IsKeptAs octets (Ok k) → length octets < 2 ^ 32 → IsTextOf octets k.limits k.spots

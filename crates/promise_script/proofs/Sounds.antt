@@ -8,12 +8,12 @@ use Rattle.kj_base.specs.declared.numbers.Limits.{Limits}
 use Rattle.kj_base.specs.declared.endings.Ending.{Ending}
 use Rattle.promise_commands.specs.declared.command.Command.{Command}
 use Rattle.promise_commands.specs.declared.script.Line.{Line}
-use Rattle.promise_commands.specs.declared.script.Line.TheVariants.{Do as DoLine, Turn as TurnLine, Run as RunLine}
+use Rattle.promise_commands.specs.declared.script.Line.TheVariants.{Do as DoLine, Turn as TurnLine, Run as RunLine, Wait as WaitLine}
 use Rattle.promise_commands.specs.declared.script.NumberedLine.{NumberedLine}
 use Rattle.promise_commands.specs.Script.{Body}
 use Rattle.promise_commands.specs.Script.{Script}
 use Rattle.promise_script.specs.declared.meaning.Meaning.{Meaning}
-use Rattle.promise_script.specs.declared.meaning.Meaning.TheVariants.{Nothing, Limits as LimitsLine, Do, Turn, Run, Step, Close}
+use Rattle.promise_script.specs.declared.meaning.Meaning.TheVariants.{Nothing, Limits as LimitsLine, Do, Turn, Run, Wait, Step, Close}
 use Rattle.promise_commands.specs.declared.action.TheConstants.{MAX_COMMANDS}
 use Rattle.promise_script.specs.ScriptText.{Means}
 use Rattle.promise_script.specs.Decode.{and_then, text_read}
@@ -147,7 +147,7 @@ Rest n l texts s = (bs : List Body) (ls : List NumberedLine) (q : Option Part) �
 -- whether there was room for the command
 command_found : (n : ℕ) (l : Option Limits) (bs : List Body) (ls : List NumberedLine) (part : Part) (c : Command) (text : List ℕ) (texts : List (List ℕ)) (s : Script) (b : Bool)
     → Rest n l texts s → Means text (Do c) → nat_lt (length part.commands) MAX_COMMANDS ≡ b
-    → went_on (cond b (Some (reading true l bs ls (Some (part_with part.step (part.commands ++ c ∷ []))))) None) (Err (refused_at (n + 1) true text)) (λ q. script_read (n + 1) q texts) ≡ Ok s
+    → went_on (cond b (Some (reading true l bs ls (Some (part_with part.step (part.commands ++ c ∷ []))))) None) (Err (refused_at (n + 1) text)) (λ q. script_read (n + 1) q texts) ≡ Ok s
     → Inside n l bs ls part (text ∷ texts) s
 command_found n l bs ls part c text texts s true rest means room e =
     command_more n l bs ls part c text texts s (below (length part.commands) MAX_COMMANDS room) means (rest bs ls (Some (part_with part.step (part.commands ++ c ∷ []))) e)
@@ -165,7 +165,7 @@ found_lines (text ∷ texts) n l bs ls p s e =
     by (λ bs ls q h. found_lines texts (n + 1) l bs ls q s h) p (text_read text) refl e
   where
     by : Rest n l texts s → (p : Option Part) (o : Option Meaning) → text_read text ≡ o
-        → went_on (and_then (λ m. stood (n + 1) m (reading true l bs ls p)) o) (Err (refused_at (n + 1) (is_inside p) text)) (λ q. script_read (n + 1) q texts) ≡ Ok s
+        → went_on (and_then (λ m. stood (n + 1) m (reading true l bs ls p)) o) (Err (refused_at (n + 1) text)) (λ q. script_read (n + 1) q texts) ≡ Ok s
         → Found n l bs ls p (text ∷ texts) s
     by rest p None read e = absurd (cc (e))
     by rest p (Some Nothing) read e = remark_more n l bs ls p text texts s (text_sound text Nothing read) (rest bs ls p e)
@@ -176,6 +176,8 @@ found_lines (text ∷ texts) n l bs ls p s e =
     by rest (Some part) (Some Turn) read e = absurd (cc (e))
     by rest None (Some (Run k)) read e = line_more n l bs ls (RunLine k) text texts s (text_sound text (Run k) read) (rest bs (ls ++ record { number = n + 1; line = RunLine k } ∷ []) None e)
     by rest (Some part) (Some (Run k)) read e = absurd (cc (e))
+    by rest None (Some (Wait p k)) read e = line_more n l bs ls (WaitLine p k) text texts s (text_sound text (Wait p k) read) (rest bs (ls ++ record { number = n + 1; line = WaitLine p k } ∷ []) None e)
+    by rest (Some part) (Some (Wait p k)) read e = absurd (cc (e))
     by rest None (Some (Step step)) read e = step_more n l bs ls step text texts s (text_sound text (Step step) read) (rest bs ls (Some (part_with step [])) e)
     by rest (Some part) (Some (Step step)) read e = absurd (cc (e))
     by rest None (Some (Close x)) read e = absurd (cc (e))
@@ -213,7 +215,7 @@ found_whole [] k s e = whole_of k [] s (no_lines k None [] [] s e)
 found_whole (text ∷ texts) k s e = by (λ h. found_whole texts (k + 1) s h) (text_read text) refl e
   where
     by : (script_read (k + 1) before_lines texts ≡ Ok s → Whole (k + 1) texts s) → (o : Option Meaning) → text_read text ≡ o
-        → went_on (and_then (λ m. stood (k + 1) m before_lines) o) (Err (refused_at (k + 1) false text)) (λ q. script_read (k + 1) q texts) ≡ Ok s
+        → went_on (and_then (λ m. stood (k + 1) m before_lines) o) (Err (refused_at (k + 1) text)) (λ q. script_read (k + 1) q texts) ≡ Ok s
         → Whole k (text ∷ texts) s
     by rest None read e = absurd (cc (e))
     by rest (Some Nothing) read e = whole_more k text texts s (text_sound text Nothing read) (rest e)
@@ -224,6 +226,8 @@ found_whole (text ∷ texts) k s e = by (λ h. found_whole texts (k + 1) s h) (t
         whole_of k (text ∷ texts) s (line_more k None [] [] TurnLine text texts s (text_sound text Turn read) (found_lines texts (k + 1) None [] (record { number = k + 1; line = TurnLine } ∷ []) None s e))
     by rest (Some (Run n)) read e =
         whole_of k (text ∷ texts) s (line_more k None [] [] (RunLine n) text texts s (text_sound text (Run n) read) (found_lines texts (k + 1) None [] (record { number = k + 1; line = RunLine n } ∷ []) None s e))
+    by rest (Some (Wait p n)) read e =
+        whole_of k (text ∷ texts) s (line_more k None [] [] (WaitLine p n) text texts s (text_sound text (Wait p n) read) (found_lines texts (k + 1) None [] (record { number = k + 1; line = WaitLine p n } ∷ []) None s e))
     by rest (Some (Step step)) read e =
         whole_of k (text ∷ texts) s (step_more k None [] [] step text texts s (text_sound text (Step step) read) (found_lines texts (k + 1) None [] [] (Some (part_with step [])) s e))
     by rest (Some (Close x)) read e = absurd (cc (e))

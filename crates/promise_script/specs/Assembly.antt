@@ -6,11 +6,11 @@ use Rattle.kj_base.specs.declared.endings.Ending.{Ending}
 use Rattle.promise_commands.specs.declared.command.Command.{Command}
 use Rattle.promise_commands.specs.declared.script.Line.{Line}
 use Rattle.promise_commands.specs.declared.script.NumberedLine.{NumberedLine}
-use Rattle.promise_commands.specs.declared.script.Line.TheVariants.{Do as DoLine, Turn as TurnLine, Run as RunLine}
+use Rattle.promise_commands.specs.declared.script.Line.TheVariants.{Do as DoLine, Turn as TurnLine, Run as RunLine, Wait as WaitLine}
 use Rattle.promise_commands.specs.Script.{Body}
 use Rattle.promise_commands.specs.declared.action.TheConstants.{MAX_COMMANDS}
 use Rattle.promise_script.specs.declared.meaning.Meaning.{Meaning}
-use Rattle.promise_script.specs.declared.meaning.Meaning.TheVariants.{Nothing, Limits as LimitsLine, Do, Turn, Run, Step, Close}
+use Rattle.promise_script.specs.declared.meaning.Meaning.TheVariants.{Nothing, Limits as LimitsLine, Do, Turn, Run, Wait, Step, Close}
 use Rattle.promise_commands.specs.Script.{Script}
 use Rattle.promise_script.specs.declared.reader.ReadRefused.{ReadRefused}
 use Rattle.promise_script.specs.declared.reader.ReadRefused.TheVariants.{Bad, NotBuilt}
@@ -81,6 +81,7 @@ stood n (LimitsLine limits) r = limited limits r
 stood n (Do command) r = commanded n command r
 stood n Turn r = lined n TurnLine r
 stood n (Run turns) r = lined n (RunLine turns) r
+stood n (Wait name turns) r = lined n (WaitLine name turns) r
 stood n (Step step) r = begun step r
 stood n (Close ending) r = closed ending r
 
@@ -98,12 +99,9 @@ unbuilt_command w =
     bytes_eq w (codes "add") || bytes_eq w (codes "wrap") || bytes_eq w (codes "ask") || bytes_eq w (codes "begin")
     || bytes_eq w (codes "stop") || bytes_eq w (codes "reply")
 
-abbrev pub unbuilt_here : Bool → List ℕ → Bool
-unbuilt_here inside w = unbuilt_command w || (not inside && bytes_eq w (codes "wait"))
-
--- why a line is refused, inside a body or outside
-abbrev pub refused_at : ℕ → Bool → List ℕ → ReadRefused
-refused_at n inside text = cond (unbuilt_here inside (first_word text)) (NotBuilt n) (Bad n)
+-- why a line is refused
+abbrev pub refused_at : ℕ → List ℕ → ReadRefused
+refused_at n text = cond (unbuilt_command (first_word text)) (NotBuilt n) (Bad n)
 
 abbrev pub is_inside : Option Part → Bool
 is_inside None = false
@@ -121,4 +119,4 @@ went_on (Some r) refused f = f r
 abbrev pub script_read : ℕ → Reading → List (List ℕ) → Result Script ReadRefused
 script_read n r [] = ended n r
 script_read n r (text ∷ texts) =
-    went_on (line_stood (n + 1) r text) (Err (refused_at (n + 1) (is_inside r.part) text)) (λ q. script_read (n + 1) q texts)
+    went_on (line_stood (n + 1) r text) (Err (refused_at (n + 1) text)) (λ q. script_read (n + 1) q texts)

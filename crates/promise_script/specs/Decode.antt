@@ -15,7 +15,7 @@ use Rattle.kj_base.specs.declared.endings.Ending.TheVariants.{Value, Throw, Prom
 use Rattle.promise_commands.specs.declared.command.Command.{Command}
 use Rattle.promise_commands.specs.declared.command.Command.TheVariants.{Now, Broken, Later, Last, Pair, Then, Chain, Eager, Fork, Branch, Race, All, Fast, Fulfil, Reject, DropCell, Detach, NewSet, OnEmpty, Clear, NewCanceler, Cancel, Drop}
 use Rattle.promise_script.specs.declared.meaning.Meaning.{Meaning}
-use Rattle.promise_script.specs.declared.meaning.Meaning.TheVariants.{Nothing, Limits as LimitsLine, Do, Turn, Run, Step, Close}
+use Rattle.promise_script.specs.declared.meaning.Meaning.TheVariants.{Nothing, Limits as LimitsLine, Do, Turn, Run, Wait, Step, Close}
 use Rattle.promise_script.specs.declared.verbs.Maker.{Maker}
 use Rattle.promise_script.specs.declared.verbs.Maker.TheVariants.{Now as NowWord, Fail as FailWord, Later as LaterWord, Last as LastWord, Pair as PairWord, Empty as EmptyWord}
 use Rattle.promise_script.specs.declared.verbs.Combiner.{Combiner}
@@ -23,7 +23,7 @@ use Rattle.promise_script.specs.declared.verbs.Combiner.TheVariants.{Then as The
 use Rattle.promise_script.specs.declared.verbs.User.{User}
 use Rattle.promise_script.specs.declared.verbs.User.TheVariants.{Fulfil as FulfilWord, Reject as RejectWord, DropCell as DropCellWord, Detach as DetachWord, Set as SetWord, Clear as ClearWord, Canceler as CancelerWord, Cancel as CancelWord, Drop as DropWord}
 use Rattle.promise_script.specs.declared.verbs.Verb.{Verb}
-use Rattle.promise_script.specs.declared.verbs.Verb.TheVariants.{Make, Combine, Use, Limits as LimitsWord, Turn as TurnWord, Run as RunWord, Step as StepWord, Value as ValueWord, Throw as ThrowWord, Promise as PromiseWord, Input as InputWord}
+use Rattle.promise_script.specs.declared.verbs.Verb.TheVariants.{Make, Combine, Use, Limits as LimitsWord, Turn as TurnWord, Run as RunWord, Wait as WaitWord, Step as StepWord, Value as ValueWord, Throw as ThrowWord, Promise as PromiseWord, Input as InputWord}
 use Rattle.promise_script.specs.ScriptText.{words_of, is_remark}
 
 -- a value from the one that may be there
@@ -155,11 +155,12 @@ other_read w =
     cond (bytes_eq w (codes "limits")) (Some LimitsWord) (
     cond (bytes_eq w (codes "turn")) (Some TurnWord) (
     cond (bytes_eq w (codes "run")) (Some RunWord) (
+    cond (bytes_eq w (codes "wait")) (Some WaitWord) (
     cond (bytes_eq w (codes "step")) (Some StepWord) (
     cond (bytes_eq w (codes "value")) (Some ValueWord) (
     cond (bytes_eq w (codes "throw")) (Some ThrowWord) (
     cond (bytes_eq w (codes "promise")) (Some PromiseWord) (
-    cond (bytes_eq w (codes "input")) (Some InputWord) (None))))))))
+    cond (bytes_eq w (codes "input")) (Some InputWord) (None)))))))))
 
 abbrev pub verb_read : List ℕ → Option Verb
 verb_read w = or_else (given Make (maker_read w)) (or_else (given Combine (combiner_read w)) (or_else (given Use (user_read w)) (other_read w)))
@@ -226,6 +227,9 @@ abbrev pub bare : Meaning → List (List ℕ) → Option Meaning
 bare meaning [] = Some meaning
 bare meaning (p ∷ ps) = None
 
+abbrev pub waited : List (List ℕ) → Option Meaning
+waited ps = given (λ p. Wait p.0 p.1) (name_and turns_read ps)
+
 abbrev pub meaning_read : Verb → List (List ℕ) → Option Meaning
 meaning_read (Make maker) ps = given Do (made_by maker ps)
 meaning_read (Combine combiner) ps = given Do (combined_by combiner ps)
@@ -233,6 +237,7 @@ meaning_read (Use user) ps = given Do (used_by user ps)
 meaning_read LimitsWord ps = given LimitsLine (limits_read ps)
 meaning_read TurnWord ps = bare Turn ps
 meaning_read RunWord ps = given Run (turns_read ps)
+meaning_read WaitWord ps = waited ps
 meaning_read StepWord ps = given (λ n. Step (to_step n)) (one_number ps)
 meaning_read ValueWord ps = given (λ words. Close (Value words)) (words_read ps)
 meaning_read ThrowWord ps = given (λ exception. Close (Throw exception)) (exception_read ps)

@@ -5,7 +5,7 @@ use Rattle.kj_base.specs.declared.numbers.Limits.{Limits}
 use Rattle.promise_commands.specs.Script.{Body, Script}
 use Rattle.promise_commands.specs.declared.action.TheConstants.{MAX_COMMANDS}
 use Rattle.promise_script.specs.declared.meaning.Meaning.{Meaning}
-use Rattle.promise_script.specs.declared.meaning.Meaning.TheVariants.{Nothing, Limits as LimitsLine, Do, Turn, Run, Step, Close}
+use Rattle.promise_script.specs.declared.meaning.Meaning.TheVariants.{Nothing, Limits as LimitsLine, Do, Turn, Run, Wait, Step, Close}
 use Rattle.promise_script.specs.declared.reader.ReadRefused.{ReadRefused}
 use Rattle.promise_script.specs.declared.reader.ReadRefused.TheVariants.{Bad, NotBuilt, NoMemory}
 use Rattle.promise_script.specs.declared.kept.Kept.{Kept}
@@ -66,6 +66,7 @@ stood place (LimitsLine limits) k = limited limits k
 stood place (Do command) k = commanded k
 stood place Turn k = lined k
 stood place (Run turns) k = lined k
+stood place (Wait name turns) k = lined k
 stood place (Step step) k = begun step place k
 stood place (Close ending) k = closed k
 

@@ -3,14 +3,14 @@ use Rattle.std.specs.Prelude.{ℕ, ◌+◌, List, [], ◌∷◌, ◌++◌, Optio
 use Rattle.promise_commands.specs.declared.command.Command.{Command}
 use Rattle.promise_commands.specs.declared.action.Action.{Action}
 use Rattle.promise_commands.specs.declared.script.Line.{Line}
-use Rattle.promise_commands.specs.declared.script.Line.TheVariants.{Do as DoLine, Turn as TurnLine, Run as RunLine}
+use Rattle.promise_commands.specs.declared.script.Line.TheVariants.{Do as DoLine, Turn as TurnLine, Run as RunLine, Wait as WaitLine}
 use Rattle.promise_commands.specs.declared.script.NumberedLine.{NumberedLine}
 use Rattle.promise_commands.specs.Script.{passing_action}
 use Rattle.promise_script.specs.declared.bodies.Inside.{Inside}
 use Rattle.promise_script.specs.declared.bodies.Inside.TheVariants.{Nothing as NothingInside, Do as DoInside, Close as CloseInside}
 use Rattle.promise_commands.specs.declared.action.TheConstants.{MAX_COMMANDS}
 use Rattle.promise_script.specs.declared.meaning.Meaning.{Meaning}
-use Rattle.promise_script.specs.declared.meaning.Meaning.TheVariants.{Nothing, Limits as LimitsLine, Do, Turn, Run, Step, Close}
+use Rattle.promise_script.specs.declared.meaning.Meaning.TheVariants.{Nothing, Limits as LimitsLine, Do, Turn, Run, Wait, Step, Close}
 use Rattle.promise_script.specs.Decode.{text_read}
 
 -- ---- outside bodies
@@ -24,6 +24,7 @@ said_outside false (Some (LimitsLine limits)) = None
 said_outside false (Some (Do command)) = Some (DoLine command)
 said_outside false (Some Turn) = Some TurnLine
 said_outside false (Some (Run turns)) = Some (RunLine turns)
+said_outside false (Some (Wait name turns)) = Some (WaitLine name turns)
 said_outside false (Some (Step step)) = None
 said_outside false (Some (Close ending)) = None
 
@@ -35,6 +36,7 @@ stays_inside inside (Some (LimitsLine limits)) = inside
 stays_inside inside (Some (Do command)) = inside
 stays_inside inside (Some Turn) = inside
 stays_inside inside (Some (Run turns)) = inside
+stays_inside inside (Some (Wait name turns)) = inside
 stays_inside inside (Some (Step step)) = true
 stays_inside inside (Some (Close ending)) = false
 
@@ -63,6 +65,7 @@ said_inside (Some (LimitsLine limits)) = NothingInside
 said_inside (Some (Do command)) = DoInside command
 said_inside (Some Turn) = NothingInside
 said_inside (Some (Run turns)) = NothingInside
+said_inside (Some (Wait name turns)) = NothingInside
 said_inside (Some (Step step)) = NothingInside
 said_inside (Some (Close ending)) = CloseInside ending
 

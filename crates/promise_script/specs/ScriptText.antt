@@ -14,7 +14,7 @@ use Rattle.kj_model.specs.Text.{kind_text}
 use Rattle.promise_commands.specs.declared.command.Command.{Command}
 use Rattle.promise_commands.specs.declared.command.Command.TheVariants.{Now, Broken, Later, Last, Pair, Then, Chain, Eager, Fork, Branch, Race, All, Fast, Fulfil, Reject, DropCell, Detach, NewSet, OnEmpty, Clear, NewCanceler, Cancel, Drop}
 use Rattle.promise_script.specs.declared.meaning.Meaning.{Meaning}
-use Rattle.promise_script.specs.declared.meaning.Meaning.TheVariants.{Nothing, Limits as LimitsLine, Do, Turn, Run, Step, Close}
+use Rattle.promise_script.specs.declared.meaning.Meaning.TheVariants.{Nothing, Limits as LimitsLine, Do, Turn, Run, Wait, Step, Close}
 
 -- ---- words
 
@@ -71,6 +71,7 @@ meaning_words (LimitsLine limits) = codes "limits" ∷ decimal limits.slots ∷ 
 meaning_words (Do command) = command_words command
 meaning_words Turn = codes "turn" ∷ []
 meaning_words (Run turns) = codes "run" ∷ decimal turns ∷ []
+meaning_words (Wait name turns) = codes "wait" ∷ name_word name ∷ decimal turns ∷ []
 meaning_words (Step step) = codes "step" ∷ decimal step.0 ∷ []
 meaning_words (Close ending) = ending_words ending
 
@@ -130,6 +131,7 @@ MeaningFits (LimitsLine limits) = LimitsFit limits
 MeaningFits (Do command) = CommandFits command
 MeaningFits Turn = Unit {0}
 MeaningFits (Run turns) = turns ≤ MAX_TURNS
+MeaningFits (Wait name turns) = NameFits name × (turns ≤ MAX_TURNS)
 MeaningFits (Step step) = step.0 < 2 ^ 32
 MeaningFits (Close ending) = EndingFits ending
 
@@ -169,5 +171,6 @@ Means text (LimitsLine limits) = Spells text (LimitsLine limits)
 Means text (Do command) = Spells text (Do command)
 Means text Turn = Spells text Turn
 Means text (Run turns) = Spells text (Run turns)
+Means text (Wait name turns) = Spells text (Wait name turns)
 Means text (Step step) = Spells text (Step step)
 Means text (Close ending) = Spells text (Close ending)

@@ -6,14 +6,14 @@ use Rattle.kj_base.specs.declared.numbers.Limits.{Limits}
 use Rattle.kj_base.specs.declared.endings.Ending.{Ending}
 use Rattle.promise_commands.specs.declared.command.Command.{Command}
 use Rattle.promise_commands.specs.declared.script.Line.{Line}
-use Rattle.promise_commands.specs.declared.script.Line.TheVariants.{Do as DoLine, Turn as TurnLine, Run as RunLine}
+use Rattle.promise_commands.specs.declared.script.Line.TheVariants.{Do as DoLine, Turn as TurnLine, Run as RunLine, Wait as WaitLine}
 use Rattle.promise_commands.specs.declared.script.NumberedLine.{NumberedLine}
 use Rattle.promise_commands.specs.Script.{Body}
 use Rattle.promise_commands.specs.Script.{Script}
 use Rattle.promise_commands.specs.declared.action.TheConstants.{MAX_COMMANDS}
 use Rattle.promise_script.specs.declared.meaning.TheConstants.{MAX_TURNS}
 use Rattle.promise_script.specs.declared.meaning.Meaning.{Meaning}
-use Rattle.promise_script.specs.declared.meaning.Meaning.TheVariants.{Nothing, Limits as LimitsLine, Do, Turn, Run, Step, Close}
+use Rattle.promise_script.specs.declared.meaning.Meaning.TheVariants.{Nothing, Limits as LimitsLine, Do, Turn, Run, Wait, Step, Close}
 use Rattle.promise_script.specs.declared.reader.ReadRefused.{ReadRefused}
 use Rattle.promise_script.specs.declared.reader.ReadRefused.TheVariants.{Bad, NotBuilt, NoMemory}
 use Rattle.promise_script.specs.ScriptText.{LimitsFit, Means, lines_of, first_word}
@@ -31,6 +31,7 @@ abbrev pub line_meaning : Line → Meaning
 line_meaning (DoLine command) = Do command
 line_meaning TurnLine = Turn
 line_meaning (RunLine turns) = Run turns
+line_meaning (WaitLine name turns) = Wait name turns
 
 -- what a line inside a body means
 abbrev pub inside_meaning : Option Command → Meaning
@@ -116,6 +117,7 @@ abbrev pub LineFits : Line → Type 0
 LineFits (DoLine command) = Unit {0}
 LineFits TurnLine = Unit {0}
 LineFits (RunLine turns) = turns ≤ MAX_TURNS
+LineFits (WaitLine name turns) = turns ≤ MAX_TURNS
 
 -- the limits are those that a loop may have, and no line has more turns than one may have
 pub record ScriptFits (script : Script) : Type 0 where
@@ -154,21 +156,19 @@ abbrev pub is_among : List (List ℕ) → List ℕ → Bool
 is_among [] word = false
 is_among (w ∷ ws) word = cond (bytes_eq word w) true (is_among ws word)
 
--- a line that begins a command that isn't built yet; or `wait`, where the lines before it are a script
-abbrev pub IsUnbuilt : List (List ℕ) → List ℕ → Type 0
-IsUnbuilt before line =
-    (is_among unbuilt_commands (first_word line) ≡ true)
-    ⊎ ((first_word line ≡ codes "wait") × ((script : Script) × IsScript before script))
+-- a line that begins a command that isn't built yet
+abbrev pub IsUnbuilt : List ℕ → Type 0
+IsUnbuilt line = is_among unbuilt_commands (first_word line) ≡ true
 
 -- a line at fault whose first word isn't one that is to be built; or a body isn't closed
 abbrev pub IsBadLine : List ℕ → ℕ → Type 0
 IsBadLine text number =
-    ((before : List (List ℕ)) × (line : List ℕ) × IsFaulty (lines_of text) number before line × (IsUnbuilt before line → ⊥))
+    ((before : List (List ℕ)) × (line : List ℕ) × IsFaulty (lines_of text) number before line × (IsUnbuilt line → ⊥))
     ⊎ IsUnclosed (lines_of text) number
 
 -- a line at fault whose first word is one that is to be built
 abbrev pub IsNotBuiltLine : List ℕ → ℕ → Type 0
-IsNotBuiltLine text number = (before : List (List ℕ)) × (line : List ℕ) × IsFaulty (lines_of text) number before line × IsUnbuilt before line
+IsNotBuiltLine text number = (before : List (List ℕ)) × (line : List ℕ) × IsFaulty (lines_of text) number before line × IsUnbuilt line
 
 -- what the octets are read as: a script, or the line at fault; want of memory says nothing of them
 abbrev pub IsReadAs : List ℕ → Result Script ReadRefused → Type 0

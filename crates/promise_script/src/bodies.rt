@@ -30,6 +30,7 @@ fn said_inside(meaning: Option<Meaning>) -> Inside
         Some(Meaning::Do(command)) => Inside::Do(command),
         Some(Meaning::Turn) => Inside::Nothing,
         Some(Meaning::Run(_)) => Inside::Nothing,
+        Some(Meaning::Wait(_, _)) => Inside::Nothing,
         Some(Meaning::Step(_)) => Inside::Nothing,
         Some(Meaning::Close(ending)) => Inside::Close(ending),
     }

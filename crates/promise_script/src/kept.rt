@@ -100,6 +100,7 @@ impl Kept {
             Meaning::Do(_) => Ok(self.command()),
             Meaning::Turn => Ok(self.line()),
             Meaning::Run(_) => Ok(self.line()),
+            Meaning::Wait(_, _) => Ok(self.line()),
             Meaning::Step(step) => Ok(self.begin(*step, place)),
             Meaning::Close(_) => self.close(),
         }

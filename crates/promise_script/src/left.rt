@@ -47,6 +47,7 @@ fn said_outside(inside: bool, meaning: Option<Meaning>) -> Option<Line>
         Some(Meaning::Do(command)) => Some(Line::Do(command)),
         Some(Meaning::Turn) => Some(Line::Turn),
         Some(Meaning::Run(turns)) => Some(Line::Run(turns)),
+        Some(Meaning::Wait(name, turns)) => Some(Line::Wait(name, turns)),
         Some(Meaning::Step(_)) => None,
         Some(Meaning::Close(_)) => None,
     }
@@ -63,6 +64,7 @@ fn stays_inside(inside: bool, meaning: &Option<Meaning>) -> bool
         Some(Meaning::Do(_)) => inside,
         Some(Meaning::Turn) => inside,
         Some(Meaning::Run(_)) => inside,
+        Some(Meaning::Wait(_, _)) => inside,
         Some(Meaning::Step(_)) => true,
         Some(Meaning::Close(_)) => false,
     }

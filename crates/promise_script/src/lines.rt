@@ -3,14 +3,14 @@ ghost use Rattle.std.specs.Prelude.{◌≡◌, ◌==◌, ◌<◌, ◌↔◌, IsT
 ghost use Rattle.promise_script.specs.declared.meaning.Meaning.{Meaning};
 ghost use Rattle.promise_script.specs.ScriptText.{Means, words_of};
 ghost use Rattle.std.specs.List.{count_by};
-ghost use Rattle.promise_script.specs.Decode.{bare, limits_fit, limits_read, one_number, turns_read, meaning_read, words_meaning, text_read};
+ghost use Rattle.promise_script.specs.Decode.{bare, waited, limits_fit, limits_read, name_and, one_number, turns_read, meaning_read, words_meaning, text_read};
 
 use crate::commands::{read_combined, read_made, read_used};
-use crate::fields::{read_number, read_words};
+use crate::fields::{read_name, read_number, read_words};
 use crate::meaning::{MAX_TURNS, Meaning, SLOTS_STEP};
 use crate::parts::{read_exception, read_one_name};
 use crate::verbs::{Verb, read_verb};
-use kj_base::{Ending, Limits, MAX_NAMES, MAX_SLOTS, NoMemory, StepId};
+use kj_base::{Ending, Limits, MAX_NAMES, MAX_SLOTS, Name, NoMemory, StepId};
 use std::alloc::{AllocError, Global};
 
 /// The most spaces in a line that means something and is no remark: those of a name and 16 words
@@ -68,6 +68,28 @@ fn read_turns(parts: &[&[u8]]) -> Option<u32>
     Some(turns)
 }
 
+// A name, and how many turns a line asks.
+fn read_wait(parts: &[&[u8]]) -> Option<(Name, u32)>
+    ensures { result ≡ name_and turns_read (map (λ w. w.now) parts.now) }
+{
+    match parts {
+        [] => None,
+        [name, rest @ ..] => {
+            let name = read_name(name)?;
+            let turns = read_turns(rest)?;
+            Some((name, turns))
+        }
+    }
+}
+
+// What a line means that waits.
+fn read_awaited(parts: &[&[u8]]) -> Option<Meaning>
+    ensures { result ≡ waited (map (λ w. w.now) parts.now) }
+{
+    let (name, turns) = read_wait(parts)?;
+    Some(Meaning::Wait(name, turns))
+}
+
 // What a line means that begins so.
 fn read_meaning(verb: Verb, parts: &[&[u8]]) -> Option<Meaning>
     ensures { result ≡ meaning_read verb (map (λ w. w.now) parts.now) }
@@ -79,6 +101,7 @@ fn read_meaning(verb: Verb, parts: &[&[u8]]) -> Option<Meaning>
         Verb::Limits => Some(Meaning::Limits(read_limits(parts)?)),
         Verb::Turn => read_bare(parts, Meaning::Turn),
         Verb::Run => Some(Meaning::Run(read_turns(parts)?)),
+        Verb::Wait => read_awaited(parts),
         Verb::Step => Some(Meaning::Step(StepId(read_one_number(parts)?))),
         Verb::Value => Some(Meaning::Close(Ending::Value(read_words(parts)?))),
         Verb::Throw => Some(Meaning::Close(Ending::Throw(read_exception(parts)?))),

@@ -1,5 +1,5 @@
 //! What a line means.
-use kj_base::{Ending, Limits, StepId};
+use kj_base::{Ending, Limits, Name, StepId};
 use promise_commands::Command;
 
 /// The most words that a value has.
@@ -22,6 +22,8 @@ pub enum Meaning {
     Turn,
     /// So many turns, or until one finds the queue empty.
     Run(u32),
+    /// A wait for the promise of this name, of so many turns at most.
+    Wait(Name, u32),
     /// A body of this step begins.
     Step(StepId),
     /// A body ends so.

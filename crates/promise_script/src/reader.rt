@@ -48,15 +48,11 @@ fn is_unbuilt_command(word: &[u8]) -> bool
         || word == b"reply".as_slice()
 }
 
-// Why a line is refused, inside a body or outside.
-fn refusal(text: &[u8], number: u32, inside: bool) -> ReadRefused
-    ensures { result ≡ refused_at number inside text.now }
+// Why a line is refused.
+fn refusal(text: &[u8], number: u32) -> ReadRefused
+    ensures { result ≡ refused_at number text.now }
 {
-    let word = first_word_of(text);
-    if is_unbuilt_command(word) {
-        return ReadRefused::NotBuilt { line: number };
-    }
-    if !inside && word == b"wait".as_slice() {
+    if is_unbuilt_command(first_word_of(text)) {
         return ReadRefused::NotBuilt { line: number };
     }
     ReadRefused::Bad { line: number }
@@ -129,9 +125,8 @@ fn read_lines(alloc: Global, octets: &[u8]) -> Result<Kept, ReadRefused>
         let (text, behind) = first_line(rest);
         let place = (octets.len() - behind.len()) as u32;
         number += 1;
-        let inside = kept.body.is_some();
         if !stand_line(&mut words, &mut kept, place, text)? {
-            return Err(refusal(text, number, inside));
+            return Err(refusal(text, number));
         }
         rest = behind;
     }

@@ -9,7 +9,7 @@ mod told;
 
 pub use kept::Kept;
 pub use order::Entry;
-pub use print::{print_idle, print_refused};
+pub use print::{print_idle, print_refused, print_waited};
 pub use steps::ScriptSteps;
 pub use told::Told;
 

@@ -1,12 +1,13 @@
 //! The text of a log. Where a call answers `Err`, a part of its text may stand there.
 ghost use Rattle.std.specs.Prelude.{◌≡◌, ◌++◌, ◌∷◌, [], OnOk, codes, decimal};
 ghost use Rattle.kj_model.specs.Text.{spaced, all_spaced, kind_text, outcome_text, refused_text, line_text};
-ghost use Rattle.kj_model.specs.Log.{RefusedAt, WasIdle};
+ghost use Rattle.kj_model.specs.Log.{RefusedAt, WasIdle, wait_line};
 ghost use Rattle.promise_commands.specs.Refusals.{refused_of};
+ghost use Rattle.promise_commands.specs.Waits.{waited_of};
 
 use itoa::Buffer;
-use kj_base::{Bytes, Kind, NoMemory, NodeId, Outcome, StepId};
-use promise_commands::Refused;
+use kj_base::{Bytes, Kind, Name, NoMemory, NodeId, Outcome, StepId};
+use promise_commands::{Refused, Waited};
 
 // A number after a space.
 fn print_number(text: &mut Bytes, n: u64) -> Result<(), NoMemory>
@@ -126,4 +127,48 @@ pub fn print_idle(text: &mut Bytes) -> Result<(), NoMemory>
     ensures { OnOk result (text.new ≡ text.old ++ line_text WasIdle ++ 10 ∷ []) }
 {
     text.extend(b"idle\n")
+}
+
+// The line of a wait that is done, with its end.
+fn print_done(text: &mut Bytes, name: Name, outcome: &Outcome) -> Result<(), NoMemory>
+    ensures { OnOk result (text.new ≡ text.old
+        ++ (codes "wait" ++ spaced name.0 ++ codes " done " ++ outcome_text outcome.now)
+        ++ 10 ∷ []) }
+{
+    text.extend(b"wait")?;
+    print_number(text, u64::from(name.0))?;
+    text.extend(b" done ")?;
+    print_outcome(text, outcome)?;
+    text.push(b'\n')
+}
+
+// The line of a wait that ended so before, with its end.
+fn print_undone(text: &mut Bytes, name: Name, end: &[u8]) -> Result<(), NoMemory>
+    ensures { OnOk result
+        (text.new ≡ text.old ++ (codes "wait" ++ spaced name.0 ++ end.now) ++ 10 ∷ []) }
+{
+    text.extend(b"wait")?;
+    print_number(text, u64::from(name.0))?;
+    text.extend(end)?;
+    text.push(b'\n')
+}
+
+/// The line of a wait, or of its refusal, with its end.
+pub fn print_waited(
+    text: &mut Bytes,
+    number: u32,
+    name: Name,
+    waited: Waited,
+) -> Result<(), NoMemory>
+    ensures { OnOk result (text.new ≡ text.old
+        ++ line_text (wait_line number name.0 (waited_of waited)) ++ 10 ∷ []) }
+{
+    match waited {
+        Waited::Done(outcome) => print_done(text, name, &outcome),
+        Waited::Idle => print_undone(text, name, b" idle"),
+        Waited::Turns => print_undone(text, name, b" turns"),
+        Waited::Refused(refused) => print_refused(text, number, refused),
+        Waited::NoMemory => print_undone(text, name, b" memory"),
+        Waited::Stopped => print_undone(text, name, b" stopped"),
+    }
 }

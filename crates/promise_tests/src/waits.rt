@@ -119,7 +119,7 @@ fn a_wait_without_memory_stops_the_loop(rt: HostRuntime) -> Result<(), Fail> {
     assert_eq!(rt; wait(&mut over, 2, 5, &mut steps), End::NoMemory);
     assert_eq!(rt; wait(&mut over, 2, 5, &mut steps), End::Stopped);
     let freed = over.close(&mut steps);
-    assert_eq!(rt; freed.as_slice(), [NodeId(1), NodeId(2)].as_slice());
+    assert_eq!(rt; freed.as_slice(), [NodeId(2)].as_slice());
     let told = [Told::Freed(NodeId(1)), Told::Freed(NodeId(2))];
     assert_eq!(rt; steps.told.as_slice(), told.as_slice());
     Ok(())

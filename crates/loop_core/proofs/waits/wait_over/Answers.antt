@@ -5,7 +5,8 @@ use Rattle.kj_model.specs.World.{World, State, Setting, Held, Promise, held_at}
 use Rattle.kj_ownership.proofs.Calls.{rests_of}
 use Rattle.promise_names.specs.Held.{SeesHeld, root_of}
 use Rattle.loop_core.specs.Loops.{StandsAt}
-use Rattle.loop_core.specs.Waits.{MayHold, StandsIn, waited_as, waited_of}
+use Rattle.promise_commands.specs.Waits.{waited_of}
+use Rattle.loop_core.specs.Waits.{MayHold, StandsIn, waited_as}
 use Rattle.loop_core.proofs.Called.{call_less}
 use Rattle.loop_core.proofs.WaitEnds.{none_seen, root_seen, wait_ends, wait_stays, wrong_seen}
 use Rattle.loop_core.proofs.waits.wait_over.Goals as goal

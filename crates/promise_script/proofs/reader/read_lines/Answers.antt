@@ -11,9 +11,9 @@ loop-rest-init c = subst (λ (k : Kept). Reads c.args.octets.now k 0 c.args.octe
 pub returns-then-not-branch : goal.returns-then-not-branch
 returns-then-not-branch c =
     let l = c.first_line.ensures in
-    refused_as c.args.octets.now c.first_line.result.0.now (c.loop-rest.number + 1) c.is_some-inside.result c.refusal.result c.refusal.ensures
+    refused_as c.args.octets.now c.first_line.result.0.now (c.loop-rest.number + 1) c.refusal.result c.refusal.ensures
     (reads_refused c.args.octets.now c.loop-rest.kept c.loop-rest.number _ c.loop-rest.rest.now c.first_line.result.0.now c.first_line.result.1.now
-    c.loop-rest.invariant l.lines l.shorter l.parts l.tail refl c.is_some-inside.result c.is_some-inside.ensures
+    c.loop-rest.invariant l.lines l.shorter l.parts l.tail refl
     (answered_no c.in_ok-stand_line.field-0 _ c.stand_line.new.kept c.in_ok-stand_line.ensures c.if-not-branch.true))
 
 pub loop-rest-preserved : goal.loop-rest-preserved

@@ -1,6 +1,6 @@
 //! The answers of a wait.
+use crate::refused::Refused;
 use kj_base::Outcome;
-use promise_commands::Refused;
 
 /// What a wait did.
 #[derive(Drop)]
