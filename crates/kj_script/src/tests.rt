@@ -21,13 +21,14 @@ use std::alloc::Global;
 use std::test::Fail;
 
 // Scripts that never run full.
-const SCRIPTS: [&[u8]; 7] = [
+const SCRIPTS: [&[u8]; 8] = [
     b"limits 64 9\nlater 1\nthen 2 1 10 -\ndetach 2\nlater 3\nthen 4 3 11 -\ndetach 4\nturn\nturn\n",
     b"limits 64 9\nstep 10\nfulfil 5 7\nvalue\npair 4 5\nthen 6 4 11 -\ndetach 6\nlater 1\nthen 2 1 10 -\ndetach 2\nlater 7\nthen 8 7 12 -\ndetach 8\nrun 3\n",
     b"limits 64 9\nlater 1\nlater 2\nrace 3 1 2\ndetach 3\nrun 3\n",
     b"limits 64 9\nnow 1 5\nfork 2 1\nbranch 3 2\nbranch 4 2\ndetach 3\ndetach 4\nrun 5\n",
     b"limits 64 9\nnow 1 5\nnow 2 6\nall 3 1 2\nthen 4 3 9 -\ndetach 4\nrun 5\n",
     b"limits 24 1\nstep 1\nlater 10\nchain 11 10 1 -\npromise 11\nlater 10\nchain 11 10 1 -\ndetach 11\nrun 1000\n",
+    b"limits 64 9\npair 1 2\nthen 3 1 10 -\nwait 3 5\nfulfil 2 7\nwait 3 0\nwait 3 5\nwait 2 1\n",
     b"limits 64 9\nlast 1\nthen 2 1 11 -\ndetach 2\nlast 3\nthen 4 3 12 -\ndetach 4\nlater 5\nthen 6 5 13 -\ndetach 6\nrun 3\n",
 ];
 
@@ -101,6 +102,7 @@ fn line_of(alloc: Global, verb: u64, a: u64, b: u64) -> Result<Bytes, NoMemory> 
         12 => format!(in alloc; "dropcell {a}\n")?,
         13 => format!(in alloc; "fast {a} {b} {c}\n")?,
         14 => format!(in alloc; "detach {a}\n")?,
+        15 => format!(in alloc; "wait {a} {b}\n")?,
         _ => format!(in alloc; "turn\n")?,
     };
     let mut line = Bytes::new(alloc);

@@ -1,6 +1,6 @@
 //! Whole scripts and what they are read as, worked by hand from the grammar.
 use crate::{ReadRefused, Script, one_script, read, some_script};
-use kj_base::{Ending, INPUT_LIMIT, Limits, NoMemory, StepId};
+use kj_base::{Ending, INPUT_LIMIT, Limits, Name, NoMemory, StepId};
 use promise_commands::{Command, Line, MAX_COMMANDS, NumberedLine};
 use std::alloc::{AllocError, Global};
 use std::test::Fail;
@@ -101,7 +101,7 @@ fn tells_what_is_not_built(rt: HostRuntime) -> Result<(), Fail> {
         (b"turn\nadd 1 2\nbogus\n".as_slice(), not_built(2)),
         (b"step 1\nadd 1 2\ninput\n", not_built(2)),
         (b"step 1\nadd 1 2", not_built(2)),
-        (b"step 1\ninput\nstop 1\n", not_built(3)),
+        (b"step 1\ninput\nwait 1\n", bad(3)),
         (b"step 1\nwait 1 2\ninput\n", bad(2)),
         (b"sets 1\n", bad(1)),
         (b"set\t1\n", bad(1)),
@@ -249,7 +249,8 @@ fn numbers_lines_outside_bodies(rt: HostRuntime) -> Result<(), Fail> {
 
 #[test]
 fn tells_limits_bodies_and_lines(rt: HostRuntime) -> Result<(), Fail> {
-    let text = b"# x\nlimits 16 2\nlater 1\n\nstep 5\nnow 2 3\n\nvalue\nrun 7\nstep 6\ninput\nturn";
+    let text =
+        b"# x\nlimits 16 2\nlater 1\n\nstep 5\nnow 2 3\n\nvalue\nrun 7\nstep 6\ninput\nturn\nwait 1 9";
     let script = read(rt.alloc(), text)?;
     let limits = Limits {
         slots: 16,
@@ -257,12 +258,13 @@ fn tells_limits_bodies_and_lines(rt: HostRuntime) -> Result<(), Fail> {
     };
     assert!(rt; script.limits() == Some(limits));
     let lines = lines_of(rt.alloc(), &script)?;
-    let [first, second, third] = lines.as_slice() else {
+    let [first, second, third, fourth] = lines.as_slice() else {
         return Err(Fail::new("others were read"));
     };
     assert!(rt; matches!(&first.line, Line::Do(Command::Later { name }) if name.0 == 1));
     assert!(rt; matches!(&second.line, Line::Run(7)));
     assert!(rt; matches!(&third.line, Line::Turn));
+    assert!(rt; matches!(&fourth.line, Line::Wait(Name(1), 9)));
     assert!(rt; script.body_count() == 2);
     assert!(rt; script.step(0) == StepId(5) && script.step(1) == StepId(6));
     let five = script.action(rt.alloc(), 0)?;

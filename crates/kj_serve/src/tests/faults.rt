@@ -93,7 +93,7 @@ fn failing_calls(rt: HostRuntime) -> Result<(), Fail> {
     let cases: [(&[&str], &[u8], u8, &[u8]); 7] = [
         (&["run"], TWO, 0, TWO_LOG),
         (&["run"], b"later x\n", 1, b"bad line 1\n"),
-        (&["run"], b"wait 1 1\n", 9, b"not built line 1\n"),
+        (&["run"], b"wrap 1 1\n", 9, b"not built line 1\n"),
         (&replay, recording, 0, replies),
         (&replay, b"kjrec 1\nconn 3\nGE", 1, b"bad record 0\n"),
         (&make, b"", 0, recording),

@@ -5,7 +5,7 @@ use std::alloc::Global;
 use std::test::Fail;
 
 // Octets, and the whole log.
-const WHOLE: [(&[u8], &[u8]); 15] = [
+const WHOLE: [(&[u8], &[u8]); 20] = [
     (
         b"later 1\nthen 2 1 10 -\ndetach 2\nlater 3\nthen 4 3 11 -\ndetach 4\nrun 2\n",
         b"free 1\nrun 2 10 value\nfree 2\nfree 3\nfree 4\nrun 5 11 value\nfree 5\nfree 6\n",
@@ -72,6 +72,30 @@ const WHOLE: [(&[u8], &[u8]); 15] = [
     (
         b"step 10\ndrop 3\nvalue\nlater 1\nthen 2 1 10 -\neager 3 2\nrun 1\nthen 4 3 11 12\ndetach 4\nrun 1\n",
         b"free 1\nrun 2 10 value\nfree 2\nfree 3\nrun 4 12 throw failed 9\nfree 4\nfree 5\n",
+    ),
+    // A wait for a join, whose parts have both a step for values and one for exceptions.
+    (
+        b"now 1 5\nfail 2 failed 1002\nnow 3 6\nfail 4 overloaded 1004\nthen 11 1 31 -\nthen 12 2 32 42\nthen 13 3 33 -\nthen 14 4 34 44\nall 20 11 12 13 14\nwait 20 10\n",
+        b"free 1\nrun 5 31 value 5\nfree 5\nfree 2\nrun 6 42 throw failed 1002\nfree 6\nfree 3\nrun 7 33 value 6\nfree 7\nfree 4\nrun 8 44 throw overloaded 1004\nfree 8\nfree 9\nfree 10\nfree 11\nfree 12\nfree 13\nwait 20 done throw failed 1002\n",
+    ),
+    (
+        b"now 1 5\nfail 2 failed 1002\nnow 3 6\nfail 4 overloaded 1004\nthen 11 1 31 -\nthen 12 2 32 42\nthen 13 3 33 -\nthen 14 4 34 44\nfast 20 11 12 13 14\nwait 20 10\n",
+        b"free 1\nrun 5 31 value 5\nfree 5\nfree 2\nrun 6 42 throw failed 1002\nfree 6\nfree 9\nfree 10\nfree 3\nfree 7\nfree 11\nfree 4\nfree 8\nfree 12\nfree 13\nwait 20 done throw failed 1002\n",
+    ),
+    // A wait that ends early gives the name back, and where no turn may be made none is.
+    (
+        b"pair 1 2\nwait 1 3\nfulfil 2 7\nwait 1 0\nwait 1 1\n",
+        b"wait 1 idle\nwait 1 turns\nfree 1\nwait 1 done value 7\n",
+    ),
+    // A step takes the name meanwhile, so the promise goes.
+    (
+        b"limits 32 4\nstep 20\nlater 1\nvalue\nlater 1\nthen 2 1 20 -\ndetach 2\nlast 1\nwait 1 1\n",
+        b"free 1\nrun 2 20 value\nfree 2\nfree 3\nfree 4\nwait 1 turns\nfree 5\n",
+    ),
+    // A wait is refused by its name.
+    (
+        b"wait 1 1\npair 1 2\nwait 2 1\n",
+        b"refused 1 unknown 1\nrefused 3 wrong 2\nfree 1\n",
     ),
 ];
 

@@ -82,14 +82,14 @@ const SCRIPTS: [(&[u8], u8, &[u8]); 25] = [
     ),
     // Eight promises, each a continuation of the one before, are in one arena; a ninth takes another one.
     (
-        b"limits 8 2\nnow 1 1\nthen 2 1 - -\nthen 1 2 - -\nthen 2 1 - -\nthen 1 2 - -\nthen 2 1 - -\nthen 1 2 - -\nthen 2 1 - -\nthen 1 2 - -\n",
+        b"limits 8 2\nnow 1 1\nthen 2 1 - -\nthen 1 2 - -\nthen 2 1 - -\nthen 1 2 - -\nthen 2 1 - -\nthen 1 2 - -\nthen 2 1 - -\nthen 1 2 - -\nwait 2 5\n",
         0,
-        b"refused 10 full\nfree 1\nfree 2\nfree 3\nfree 4\nfree 5\nfree 6\nfree 7\nfree 8\n",
+        b"refused 10 full\nfree 1\nfree 2\nfree 3\nfree 4\nfree 5\nfree 6\nfree 7\nfree 8\nwait 2 done value 1\n",
     ),
     (
-        b"limits 16 2\nnow 1 1\nthen 2 1 - -\nthen 1 2 - -\nthen 2 1 - -\nthen 1 2 - -\nthen 2 1 - -\nthen 1 2 - -\nthen 2 1 - -\nthen 1 2 - -\n",
+        b"limits 16 2\nnow 1 1\nthen 2 1 - -\nthen 1 2 - -\nthen 2 1 - -\nthen 1 2 - -\nthen 2 1 - -\nthen 1 2 - -\nthen 2 1 - -\nthen 1 2 - -\nwait 1 5\n",
         0,
-        b"free 1\nfree 2\nfree 3\nfree 4\nfree 5\nfree 6\nfree 7\nfree 8\nfree 9\n",
+        b"free 1\nfree 2\nfree 3\nfree 4\nfree 5\nfree 6\nfree 7\nfree 8\nfree 9\nwait 1 done value 1\n",
     ),
     // A hub with two branches, of which the first was made first.
     (
