@@ -125,12 +125,12 @@ is_fresh (Some (Hub content true (b ∷ bs))) = false
 is_fresh (Some (Hub content false branches)) = false
 is_fresh other = true
 
-root_here : (n m : ℕ) (o : Option Form) → m ≡ n → times m (root_out n o) + one_if (is_hub_form o) ≡ 1
+pub root_here : (n m : ℕ) (o : Option Form) → m ≡ n → times m (root_out n o) + one_if (is_hub_form o) ≡ 1
 root_here n m None e = let s : nat_eq n m ≡ true = grind (arith, nat_tests) in grind (arith, nat_tests)
 root_here n m (Some (Hub content is_named branches)) e = refl
 root_here n m (Some _) e = let s : nat_eq n m ≡ true = grind (arith, nat_tests) in grind (arith, nat_tests)
 
-root_other : (n m : ℕ) (o : Option Form) → nat_eq n m ≡ false → times m (root_out n o) ≡ 0
+pub root_other : (n m : ℕ) (o : Option Form) → nat_eq n m ≡ false → times m (root_out n o) ≡ 0
 root_other n m None d = grind (arith, nat_tests)
 root_other n m (Some (Hub content is_named branches)) d = refl
 root_other n m (Some _) d = grind (arith, nat_tests)

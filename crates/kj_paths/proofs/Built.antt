@@ -3,7 +3,7 @@ use Rattle.std.proofs.Common.{◌≡◌, ◌⊎◌, inl, inr, ℕ, ◌+◌, ◌-
 use Rattle.std.specs.Prelude.{nat_eq, nat_lt, is_some, map}
 use Rattle.std.proofs.lemmas.Bool.Decides.{nat_tests}
 use Rattle.kj_base.specs.Places.{Spot, spot_of, spot_anew, spot_before}
-use Rattle.kj_model.specs.Nodes.{Form, Hub, form_at, parts_of, parts_found, is_in}
+use Rattle.kj_model.specs.Nodes.{Form, form_at, parts_of, parts_found, is_in}
 use Rattle.kj_model.specs.World.{World}
 use Rattle.kj_model.specs.Places.{built, numbered, placed_anew, placed_if, placed_over}
 use Rattle.kj_model.specs.Framed.{times}
@@ -12,7 +12,7 @@ use Rattle.kj_model.proofs.Once.{false_by}
 use Rattle.kj_model.proofs.Counts.{times_app}
 use Rattle.kj_ownership.specs.Owners.{is_live, owns, is_hub_form}
 use Rattle.kj_ownership.specs.Standing.{one_if}
-use Rattle.kj_ownership.proofs.Moves.{grown, app_other, app_new, root_out}
+use Rattle.kj_ownership.proofs.Moves.{grown, app_other, app_new, root_out, root_here, root_other}
 use Rattle.kj_ownership.proofs.Stays.{in_times, out_times}
 use Rattle.kj_model.proofs.Members.{in_none}
 use Rattle.std.proofs.lemmas.List.{map-append}
@@ -127,16 +127,6 @@ no_number : (n : ℕ) (xs : List Spot) → ((x : Spot) → spot_of n xs ≡ Some
 no_number n xs h = out_times n (map (λ (x : Spot). x.number) xs) (false_by (is_in n (map (λ (x : Spot). x.number) xs)) (λ i. (let r = number_spot n xs i in h r.0 r.1)))
 
 -- where the new node stands
-root_here : (n m : ℕ) (o : Option Form) → m ≡ n → times m (root_out n o) + one_if (is_hub_form o) ≡ 1
-root_here n m None e = let s : nat_eq n m ≡ true = grind (arith, nat_tests) in grind (arith, nat_tests)
-root_here n m (Some (Hub content is_named branches)) e = refl
-root_here n m (Some _) e = let s : nat_eq n m ≡ true = grind (arith, nat_tests) in grind (arith, nat_tests)
-
-root_other : (n m : ℕ) (o : Option Form) → nat_eq n m ≡ false → times m (root_out n o) ≡ 0
-root_other n m None d = grind (arith, nat_tests)
-root_other n m (Some (Hub content is_named branches)) d = refl
-root_other n m (Some _) d = grind (arith, nat_tests)
-
 differs : (m n : ℕ) → m < n → nat_eq m n ≡ false
 differs m n h = grind (arith, nat_tests)
 

@@ -17,16 +17,19 @@ pub record NextBefore (n : ℕ) (x : Spot) (w : World) : Type 0 where
   pub place : spot.place + 1 ≡ x.place
   pub owner : owns number n w.nodes ≡ true
 
--- each live node has its arena and one of its eight places, where no other is; and the live nodes of one arena are one path:
--- each but that of the least place is owned by the live node one place before it
+-- each live node has its arena and one of its eight places, where no other is; and the live nodes
+-- of one arena are one path: each but that of the least place is owned by the live node one place
+-- before it
 pub record Paths (w : World) : Type 0 where
   pub placed : (n : ℕ) → is_live n w.nodes ≡ true → (x : Spot) × (spot_of n w.spots ≡ Some x)
   pub live : (n : ℕ) (x : Spot) → spot_of n w.spots ≡ Some x → is_live n w.nodes ≡ true
   pub once : (n : ℕ) → times n (map (λ (x : Spot). x.number) w.spots) ≤ 1
   pub places : (n : ℕ) (x : Spot) → spot_of n w.spots ≡ Some x → x.place < 8
   pub keys : (n : ℕ) (x : Spot) → spot_of n w.spots ≡ Some x → x.key < w.next_key
-  pub alone : (m n : ℕ) (x y : Spot) → spot_of m w.spots ≡ Some x → spot_of n w.spots ≡ Some y → x.key ≡ y.key → x.place ≡ y.place → m ≡ n
-  pub paths : (m n : ℕ) (x y : Spot) → spot_of m w.spots ≡ Some x → spot_of n w.spots ≡ Some y → x.key ≡ y.key → x.place < y.place → NextBefore n y w
+  pub alone : (m n : ℕ) (x y : Spot) → spot_of m w.spots ≡ Some x → spot_of n w.spots ≡ Some y
+      → x.key ≡ y.key → x.place ≡ y.place → m ≡ n
+  pub paths : (m n : ℕ) (x y : Spot) → spot_of m w.spots ≡ Some x → spot_of n w.spots ≡ Some y
+      → x.key ≡ y.key → x.place < y.place → NextBefore n y w
 
 -- whether an arena is in use: its key is that of some spot
 abbrev pub is_used : ℕ → List Spot → Bool
@@ -43,4 +46,5 @@ pub record LivesIn (key : ℕ) (w : World) : Type 0 where
 -- no call of the list closes the loop, and a taking call frees a name that leaves no root
 abbrev pub AreOpen : Setting → List Call → State → Type 0
 AreOpen setting [] s = Unit {0}
-AreOpen setting (c ∷ cs) s = (is_open c ≡ true) × TakesSpent c s.world × AreOpen setting cs (call setting c s).0
+AreOpen setting (c ∷ cs) s =
+    (is_open c ≡ true) × TakesSpent c s.world × AreOpen setting cs (call setting c s).0

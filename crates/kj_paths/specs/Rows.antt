@@ -10,10 +10,12 @@ use Rattle.kj_model.specs.World.{World, Setting}
 abbrev pub IsFirst : Spot → World → Type 0
 IsFirst x w = (m : ℕ) (y : Spot) → spot_of m w.spots ≡ Some y → y.key ≡ x.key → y.place < x.place → ⊥
 
--- a row goes anew, or before a node that, where it lives, is the first of its arena, and before which no other of these rows goes
+-- a row goes anew, or before a node that, where it lives, is the first of its arena, and before
+-- which no other of these rows goes
 abbrev pub GoesAlone : World → Option ℕ → List Row → Type 0
 GoesAlone w None others = Unit {0}
-GoesAlone w (Some n) others = (x : Spot) → spot_of n w.spots ≡ Some x → IsFirst x w × (is_named n others ≡ false)
+GoesAlone w (Some n) others =
+    (x : Spot) → spot_of n w.spots ≡ Some x → IsFirst x w × (is_named n others ≡ false)
 
 -- rows of at most eight nodes each, before different nodes that are first in their arenas, or anew
 abbrev pub GoApart : World → List Row → Type 0
