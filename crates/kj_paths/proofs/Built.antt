@@ -3,7 +3,7 @@ use Rattle.std.proofs.Common.{◌≡◌, ◌⊎◌, inl, inr, ℕ, ◌+◌, ◌-
 use Rattle.std.specs.Prelude.{nat_eq, nat_lt, is_some, map}
 use Rattle.std.proofs.lemmas.Bool.Decides.{nat_tests}
 use Rattle.kj_base.specs.Places.{Spot, spot_of, spot_anew, spot_before}
-use Rattle.kj_model.specs.Nodes.{Form, Hub, form_at, parts_of, parts_found, is_in}
+use Rattle.kj_model.specs.Nodes.{Form, form_at, parts_of, parts_found, is_in}
 use Rattle.kj_model.specs.World.{World}
 use Rattle.kj_model.specs.Places.{built, numbered, placed_anew, placed_if, placed_over}
 use Rattle.kj_model.specs.Framed.{times}
