@@ -20,7 +20,7 @@ use Rattle.promise_walks.specs.Walks.{Both}
 use Rattle.promise_walks.specs.Values.{Answer, Agrees, Rule, setting_of}
 use Rattle.loop_core.specs.Calls.{CallIs, ComesTo}
 use Rattle.loop_core.specs.Loops.{StandsAt}
-use Rattle.loop_core.proofs.Called.{Found, call_in, call_silent, found_in, led, stands_still}
+use Rattle.loop_core.proofs.Called.{Found, call_in, found_in, led, stands_still}
 
 -- a command, with the frees that it tells
 pub command_called : (rule : Rule) (OldNodes OldNames NewNodes NewNames : World → Type 0) (c : Command) (refused : Option Refused) (a b : Telling) (k l : ℕ)

@@ -1,5 +1,5 @@
 -- The parts of a wait's end, told as calls.
-use Rattle.std.proofs.Common.{◌≡◌, ◌∙◌, ℕ, ◌++◌, List, Option, None, Some, Bool, true, false, refl, sym, ap, subst}
+use Rattle.std.proofs.Common.{◌≡◌, ℕ, List, Option, None, Some, true, refl, ap}
 use Rattle.kj_base.specs.Counts.{HasLacked}
 use Rattle.kj_base.specs.Record.{Item}
 use Rattle.kj_base.specs.declared.outcomes.Outcome.{Outcome}
@@ -7,9 +7,9 @@ use Rattle.promise_commands.specs.Telling.{Telling, Hears}
 use Rattle.kj_model.specs.Calls.{Waited, Done, WaitNoMemory, lost, wait_valued}
 use Rattle.kj_model.specs.Changes.{silent}
 use Rattle.kj_model.specs.Value.{value}
-use Rattle.kj_model.specs.World.{World, State, Setting}
+use Rattle.kj_model.specs.World.{World, State}
 use Rattle.promise_walks.specs.Walks.{Both, Does}
-use Rattle.promise_walks.specs.Values.{Rule, Goes, Lacks, gave, setting_of}
+use Rattle.promise_walks.specs.Values.{Rule, Goes, Lacks, gave}
 use Rattle.loop_core.specs.Calls.{CallIs}
 use Rattle.loop_core.specs.Waits.{StandsIn, awaited_gone, valued_at}
 use Rattle.loop_core.proofs.Called.{Found}

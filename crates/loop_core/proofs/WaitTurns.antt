@@ -7,7 +7,7 @@ use Rattle.kj_base.specs.Counts.{HasLacked}
 use Rattle.kj_base.specs.Queue.{Events, IsQueue, head_of, rewound}
 use Rattle.kj_base.specs.Record.{Item}
 use Rattle.promise_commands.specs.Telling.{Telling}
-use Rattle.kj_model.specs.Calls.{Turned, Fired, NoMemory, WaitIdle, WaitNoMemory, let_go, lost, rewound_world, turn, wait_more, wait_turn, wait_turned}
+use Rattle.kj_model.specs.Calls.{Turned, Fired, NoMemory, Waited, WaitIdle, WaitNoMemory, let_go, lost, rewound_world, turn, wait_more, wait_turn, wait_turned}
 use Rattle.kj_model.specs.Changes.{silent, with_queue}
 use Rattle.kj_model.specs.World.{World, State, Setting}
 use Rattle.kj_ownership.specs.Kept.{Rests}
@@ -107,53 +107,50 @@ runs_on : (setting : Setting) (b : Bool) (u s : State) → u.world.stopped ≡ b
 runs_on setting false u s is runs ends = is
 runs_on setting true u s is runs ends = absurd (fired_lacks (ap (λ (x : State × Turned). x.1) ends ∙ turn_told setting s runs (sym (ap (λ (x : State × Turned). x.0.world.stopped) ends) ∙ is)))
 
--- the event of a node fired
-pub other_fired : (rule : Rule) (OldNodes OldNames NewNodes NewNames : World → Type 0) (event : Link) (n : ℕ) (a b : Telling) (k l : ℕ) → nat_eq event.number.0 0 ≡ false
-    → TakenIs rule OldNodes OldNames NewNodes NewNames (FiredIn event) a b k l
-    → Found (Waits rule OldNodes OldNames) (Waits rule NewNodes NewNames) rule (λ setting. wait_more setting (suc n)) (λ setting. wait_more setting n) a b k l
-other_fired rule OldNodes OldNames NewNodes NewNames event n a b k l apart t = record {
+-- a turn that doesn't say that there was no memory, by where it leads
+turn_found : (rule : Rule) (OldNodes OldNames NewNodes NewNames : World → Type 0) (New : State → Type 0) (after : Setting → State → State × Waited) (taken : TakenCase) (n : ℕ) (a b : Telling) (k l : ℕ) → NotLacking taken
+    → ((setting : Setting) (s u : State) → Waits rule OldNodes OldNames s → IsTaken taken (head_of s.world.queue) → Rested rule NewNodes NewNames u → turned_as (turned_in taken) u ≡ turn setting s
+    → New u × (after setting u ≡ wait_more setting (suc n) s))
+    → TakenIs rule OldNodes OldNames NewNodes NewNames taken a b k l
+    → Found (Waits rule OldNodes OldNames) New rule (λ setting. wait_more setting (suc n)) after a b k l
+turn_found rule OldNodes OldNames NewNodes NewNames New after taken n a b k l other goes t = record {
   call = record {
     items = t.acts.items;
     missing = None;
     told = t.acts.told;
-    counts = λ s old. t.memory (told_answer None []) s old.rested.stands ((old.rested.takes, old.rested.rests), old.runs);
+    counts = λ s old. subst (λ (lacks : Bool). HasLacked lacks k l) (not_lacked taken other) (t.memory (told_answer None []) s old.rested.stands ((old.rested.takes, old.rested.rests), old.runs));
     leads = λ answer s old agrees lacking.
-        let setting : Setting = setting_of rule answer in
-        let none = none_missing rule OldNodes OldNames NewNodes NewNames (FiredIn event) a b k l t t.acts.missing refl tt s old in
-        let r = turn_leads rule OldNodes OldNames NewNodes NewNames (FiredIn event) a b k l t answer s old agrees (subst (λ (o : Option ℕ). IsMissing answer (s.past ++ t.acts.items) o) (sym none) tt) in
-        record {
-          state = r.state;
-          stands = record { rested = r.stands; runs = runs_on setting r.state.world.stopped r.state s refl old.runs r.ends };
-          past_is = r.past_is;
-          ends = turned_is setting n event.number.0 false (r.state, Fired) s (t.event s.world old.rested.stands.0) apart r.ends;
-        };
+        let none = none_missing rule OldNodes OldNames NewNodes NewNames taken a b k l t t.acts.missing refl other s old in
+        let r = turn_leads rule OldNodes OldNames NewNodes NewNames taken a b k l t answer s old agrees (subst (λ (o : Option ℕ). IsMissing answer (s.past ++ t.acts.items) o) (sym none) tt) in
+        let end = goes (setting_of rule answer) s r.state old (t.event s.world old.rested.stands.0) r.stands r.ends in
+        record { state = r.state; stands = end.0; past_is = r.past_is; ends = end.1 };
   };
   none = refl;
 }
+  where
+    not_lacked : (taken : TakenCase) → NotLacking taken → lacked_memory (turned_in taken) ≡ false
+    not_lacked (FiredIn event) other = refl
+    not_lacked IdleIn other = refl
+    not_lacked NoMemoryIn other = absurd other
+
+-- the event of a node fired
+pub other_fired : (rule : Rule) (OldNodes OldNames NewNodes NewNames : World → Type 0) (event : Link) (n : ℕ) (a b : Telling) (k l : ℕ) → nat_eq event.number.0 0 ≡ false
+    → TakenIs rule OldNodes OldNames NewNodes NewNames (FiredIn event) a b k l
+    → Found (Waits rule OldNodes OldNames) (Waits rule NewNodes NewNames) rule (λ setting. wait_more setting (suc n)) (λ setting. wait_more setting n) a b k l
+other_fired rule OldNodes OldNames NewNodes NewNames event n a b k l apart =
+    turn_found rule OldNodes OldNames NewNodes NewNames (Waits rule NewNodes NewNames) (λ (setting : Setting). wait_more setting n) (FiredIn event) n a b k l tt
+    (λ setting s u old head rested ends. (
+      record { rested = rested; runs = runs_on setting u.world.stopped u s refl old.runs ends },
+      turned_is setting n event.number.0 false (u, Fired) s head apart ends,
+    ))
 
 -- the event of the wait fired
 pub own_fired : (rule : Rule) (OldNodes OldNames NewNodes NewNames : World → Type 0) (event : Link) (n : ℕ) (a b : Telling) (k l : ℕ) → nat_eq event.number.0 0 ≡ true
     → TakenIs rule OldNodes OldNames NewNodes NewNames (FiredIn event) a b k l
     → Found (Waits rule OldNodes OldNames) (Rested rule NewNodes NewNames) rule (λ setting. wait_more setting (suc n)) (λ setting. left_of_wait Ready setting) a b k l
-own_fired rule OldNodes OldNames NewNodes NewNames event n a b k l own t = record {
-  call = record {
-    items = t.acts.items;
-    missing = None;
-    told = t.acts.told;
-    counts = λ s old. t.memory (told_answer None []) s old.rested.stands ((old.rested.takes, old.rested.rests), old.runs);
-    leads = λ answer s old agrees lacking.
-        let setting : Setting = setting_of rule answer in
-        let none = none_missing rule OldNodes OldNames NewNodes NewNames (FiredIn event) a b k l t t.acts.missing refl tt s old in
-        let r = turn_leads rule OldNodes OldNames NewNodes NewNames (FiredIn event) a b k l t answer s old agrees (subst (λ (o : Option ℕ). IsMissing answer (s.past ++ t.acts.items) o) (sym none) tt) in
-        record {
-          state = r.state;
-          stands = r.stands;
-          past_is = r.past_is;
-          ends = turned_is setting n event.number.0 true (r.state, Fired) s (t.event s.world old.rested.stands.0) own r.ends;
-        };
-  };
-  none = refl;
-}
+own_fired rule OldNodes OldNames NewNodes NewNames event n a b k l own =
+    turn_found rule OldNodes OldNames NewNodes NewNames (Rested rule NewNodes NewNames) (λ (setting : Setting). left_of_wait Ready setting) (FiredIn event) n a b k l tt
+    (λ setting s u old head rested ends. (rested, turned_is setting n event.number.0 true (u, Fired) s head own ends))
 
 -- an empty queue is rewound
 no_points : (xs : List ℕ) (depth breadth : ℕ) → head_of (record { list = xs; depth = depth; breadth = breadth }) ≡ None → depth ≤ breadth → breadth ≤ length xs → depth ≡ 0
@@ -170,27 +167,11 @@ same_state s none is = ap (λ (q : Events). silent (with_queue q) s) (rewound_is
 pub none_fired : (rule : Rule) (OldNodes OldNames NewNodes NewNames : World → Type 0) (n : ℕ) (a b : Telling) (k l : ℕ)
     → TakenIs rule OldNodes OldNames NewNodes NewNames IdleIn a b k l
     → Found (Waits rule OldNodes OldNames) (Rested rule NewNodes NewNames) rule (λ setting. wait_more setting (suc n)) (λ setting. left_of_wait IdleEnd setting) a b k l
-none_fired rule OldNodes OldNames NewNodes NewNames n a b k l t = record {
-  call = record {
-    items = t.acts.items;
-    missing = None;
-    told = t.acts.told;
-    counts = λ s old. t.memory (told_answer None []) s old.rested.stands ((old.rested.takes, old.rested.rests), old.runs);
-    leads = λ answer s old agrees lacking.
-        let setting : Setting = setting_of rule answer in
-        let none = none_missing rule OldNodes OldNames NewNodes NewNames IdleIn a b k l t t.acts.missing refl tt s old in
-        let r = turn_leads rule OldNodes OldNames NewNodes NewNames IdleIn a b k l t answer s old agrees (subst (λ (o : Option ℕ). IsMissing answer (s.past ++ t.acts.items) o) (sym none) tt) in
-        let head : head_of s.world.queue ≡ None = t.event s.world old.rested.stands.0 in
-        let here : r.state ≡ s = ap (λ (x : State × Turned). x.0) (r.ends ∙ idle_is setting s old.runs head) ∙ same_state s head old.rested.rests.owned.queue in
-        record {
-          state = r.state;
-          stands = r.stands;
-          past_is = r.past_is;
-          ends = ap (λ (u : State). (let_go u, WaitIdle)) here ∙ sym (ap (λ (o : Option ℕ). wait_turn setting (wait_more setting n) o s) head);
-        };
-  };
-  none = refl;
-}
+none_fired rule OldNodes OldNames NewNodes NewNames n a b k l =
+    turn_found rule OldNodes OldNames NewNodes NewNames (Rested rule NewNodes NewNames) (λ (setting : Setting). left_of_wait IdleEnd setting) IdleIn n a b k l tt
+    (λ setting s u old head rested ends.
+    let here : u ≡ s = ap (λ (x : State × Turned). x.0) (ends ∙ idle_is setting s old.runs head) ∙ same_state s head old.rested.rests.owned.queue in
+    (rested, ap (λ (v : State). (let_go v, WaitIdle)) here ∙ sym (ap (λ (o : Option ℕ). wait_turn setting (wait_more setting n) o s) head)))
 
 -- a step found no memory
 lost_is : (setting : Setting) (n : ℕ) (head : Option ℕ) (u s : State) → head_of s.world.queue ≡ head → IsSome head → (u, NoMemory) ≡ turn setting s → (silent lost u, WaitNoMemory) ≡ wait_more setting (suc n) s

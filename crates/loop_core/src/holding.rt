@@ -10,22 +10,20 @@ ghost use Rattle.promise_nodes.specs.Shown.{link_number};
 ghost use Rattle.promise_walks.specs.Walks.{Both, Does};
 ghost use Rattle.loop_core.specs.Waits.{awaited_gone};
 
-use kj_base::{Link, Name, NodeId, Slot};
+use kj_base::{Link, Name};
 use promise_commands::Steps;
 use promise_eval::{Evaluator, Ground};
-use promise_listening::listen;
+use promise_listening::{WAIT, listen};
 use promise_names::{Awaited, Held, Names};
 use promise_nodes::Nodes;
 use promise_walks::free_part;
 
-/// The event of the wait.
-const WAIT: Link = Link {
-    slot: Slot(0),
-    number: NodeId(0),
-};
-
-// The promise is taken out of its name, and the wait listens to its tree.
-fn hold<N: Nodes + Drop, M: Names + Drop>(ground: &mut Ground<N, M>, name: Name, root: Link)
+/// The promise is taken out of its name, and the wait listens to its tree.
+pub(crate) fn hold<N: Nodes + Drop, M: Names + Drop>(
+    ground: &mut Ground<N, M>,
+    name: Name,
+    root: Link,
+)
     requires named { M.roots ground.old.names name.0 ≡ Some root.number.0 }
     ensures stands { (w : World)
         → Both (N.stands ground.old.nodes) (M.stands ground.old.names) w
@@ -130,8 +128,11 @@ fn let_go_of<N: Nodes + Drop, M: Names + Drop, S: Steps>(
     }
 }
 
-// Nobody listens any more, and the promise has its name again, or is freed where a step took that name.
-fn let_go<N: Nodes + Drop, M: Names + Drop, S: Steps>(ground: &mut Ground<N, M>, steps: &mut S)
+/// Nobody listens any more, and the promise has its name again, or is freed where a step took that name.
+pub(crate) fn let_go<N: Nodes + Drop, M: Names + Drop, S: Steps>(
+    ground: &mut Ground<N, M>,
+    steps: &mut S,
+)
     ensures does { Does (Both (N.stands ground.old.nodes) (M.stands ground.old.names))
         (Both (N.stands ground.new.nodes) (M.stands ground.new.names)) let_go (λ s. s)
         (S.told steps.old) (S.told steps.new) }
@@ -146,8 +147,8 @@ fn let_go<N: Nodes + Drop, M: Names + Drop, S: Steps>(ground: &mut Ground<N, M>,
     }
 }
 
-// The promise that is awaited is freed, with the wait's event.
-fn free_awaited<N: Nodes + Drop, M: Names + Drop, S: Steps>(
+/// The promise that is awaited is freed, with the wait's event.
+pub(crate) fn free_awaited<N: Nodes + Drop, M: Names + Drop, S: Steps>(
     ground: &mut Ground<N, M>,
     steps: &mut S,
 )
@@ -168,8 +169,8 @@ fn free_awaited<N: Nodes + Drop, M: Names + Drop, S: Steps>(
     }
 }
 
-// A step found no memory: nobody listens any more, and the promise is left over without a name.
-fn lose<N: Nodes + Drop, M: Names + Drop>(ground: &mut Ground<N, M>)
+/// A step found no memory: nobody listens any more, and the promise is left over without a name.
+pub(crate) fn lose<N: Nodes + Drop, M: Names + Drop>(ground: &mut Ground<N, M>)
     requires room { M.over ground.old.names ≡ [] }
     ensures stands { (w : World)
         → Both (N.stands ground.old.nodes) (M.stands ground.old.names) w
@@ -182,61 +183,6 @@ fn lose<N: Nodes + Drop, M: Names + Drop>(ground: &mut Ground<N, M>)
         ground.keepers.names.lose(promise.root);
         await_none(ground);
     }
-}
-
-/// The promise is taken out of its name, and the wait listens to its tree.
-pub(crate) fn hold_over<N: Nodes + Drop, M: Names + Drop>(
-    over: &mut Evaluator<N, M>,
-    name: Name,
-    root: Link,
-)
-    requires named { M.roots over.old.names name.0 ≡ Some root.number.0 }
-    ensures stands { (w : World)
-        → Both (N.stands over.old.nodes) (M.stands over.old.names) w
-        → Both (N.stands over.new.nodes) (M.stands over.new.names)
-        (held_awaited name.0 root.number.0 w) }
-    ensures over { M.over over.new.names ≡ M.over over.old.names }
-{
-    hold(&mut over.ground, name, root);
-}
-
-/// Nobody listens any more, and the promise has its name again, or is freed where a step took that name.
-pub(crate) fn let_go_over<N: Nodes + Drop, M: Names + Drop, S: Steps>(
-    over: &mut Evaluator<N, M>,
-    steps: &mut S,
-)
-    ensures does { Does (Both (N.stands over.old.nodes) (M.stands over.old.names))
-        (Both (N.stands over.new.nodes) (M.stands over.new.names)) let_go (λ s. s)
-        (S.told steps.old) (S.told steps.new) }
-    ensures lacks { S.lacks steps.new ≡ S.lacks steps.old }
-    ensures over { M.over over.new.names ≡ M.over over.old.names }
-{
-    let_go(&mut over.ground, steps);
-}
-
-/// The promise that is awaited is freed, with the wait's event.
-pub(crate) fn free_over<N: Nodes + Drop, M: Names + Drop, S: Steps>(
-    over: &mut Evaluator<N, M>,
-    steps: &mut S,
-)
-    ensures does { Does (Both (N.stands over.old.nodes) (M.stands over.old.names))
-        (Both (N.stands over.new.nodes) (M.stands over.new.names)) awaited_gone (λ s. s)
-        (S.told steps.old) (S.told steps.new) }
-    ensures lacks { S.lacks steps.new ≡ S.lacks steps.old }
-    ensures over { M.over over.new.names ≡ M.over over.old.names }
-{
-    free_awaited(&mut over.ground, steps);
-}
-
-/// A step found no memory: nobody listens any more, and the promise is left over without a name.
-pub(crate) fn lose_over<N: Nodes + Drop, M: Names + Drop>(over: &mut Evaluator<N, M>)
-    requires room { M.over over.old.names ≡ [] }
-    ensures stands { (w : World)
-        → Both (N.stands over.old.nodes) (M.stands over.old.names) w
-        → Both (N.stands over.new.nodes) (M.stands over.new.names) (lost w) }
-    ensures over { length (M.over over.new.names) ≤ 2 }
-{
-    lose(&mut over.ground);
 }
 
 /// The promise that is awaited.

@@ -7,9 +7,7 @@ ghost use Rattle.loop_core.specs.Calls.{CallIs};
 ghost use Rattle.loop_core.specs.Loops.{StandsAt};
 ghost use Rattle.loop_core.specs.Waits.{MayHold, StandsIn, Waits, lacked_waiting, valued_at, waited_as};
 
-use crate::holding::{
-    awaited_over, free_over, held_over, hold_over, let_go_over, lose_over, promise_of,
-};
+use crate::holding::{awaited_over, free_awaited, held_over, hold, let_go, lose, promise_of};
 use crate::waiting::{WaitEnd, wait_turns};
 use kj_base::{Link, Name};
 use promise_commands::{Refused, Steps, Waited};
@@ -35,11 +33,11 @@ fn finish_tree<N: Nodes + Drop, M: Names + Drop, S: Steps>(
 {
     match over.evaluate(root, steps) {
         Ok(outcome) => {
-            free_over(over, steps);
+            free_awaited(&mut over.ground, steps);
             Waited::Done(outcome)
         }
         Err(_) => {
-            lose_over(over);
+            lose(&mut over.ground);
             Waited::NoMemory
         }
     }
@@ -85,15 +83,15 @@ fn wait_held<N: Nodes + Drop, M: Names + Drop, S: Steps>(
     match wait_turns(over, turns, steps) {
         WaitEnd::Ready => finish(over, steps),
         WaitEnd::Idle => {
-            let_go_over(over, steps);
+            let_go(&mut over.ground, steps);
             Waited::Idle
         }
         WaitEnd::AllMade => {
-            let_go_over(over, steps);
+            let_go(&mut over.ground, steps);
             Waited::Turns
         }
         WaitEnd::NoMemory => {
-            lose_over(over);
+            lose(&mut over.ground);
             Waited::NoMemory
         }
     }
@@ -119,7 +117,7 @@ fn wait_for<N: Nodes + Drop, M: Names + Drop, S: Steps>(
         → HasLacked (lacked_waiting result) (S.lacks steps.old) (S.lacks steps.new) }
     ensures over { length (M.over over.new.names) ≤ 2 }
 {
-    hold_over(over, name, root);
+    hold(&mut over.ground, name, root);
     wait_held(over, turns, steps)
 }
 

@@ -17,8 +17,8 @@ pub enum Above {
     Higher(Link),
 }
 
-/// The event of the wait.
-const WAIT: Link = Link {
+/// The event of the wait, who listens to the tree that is awaited.
+pub const WAIT: Link = Link {
     slot: Slot(0),
     number: NodeId(0),
 };

@@ -5,6 +5,6 @@ mod above;
 mod arming;
 mod ready;
 
-pub use above::listener;
+pub use above::{WAIT, listener};
 pub use arming::{announce, arm, keep, listen, settle};
 pub use ready::{is_join_ready, is_last, is_ready};

@@ -1,7 +1,7 @@
 use Rattle.std.proofs.Common.{◌≡◌, ◌∙◌, ◌≤◌, ℕ, List, [], Bool, true, ap, sym, subst, arith}
 use Rattle.kj_base.specs.declared.numbers.NodeId.{NodeId}
 use Rattle.kj_model.specs.Calls.{close}
-use Rattle.kj_model.specs.World.{World, State}
+use Rattle.kj_model.specs.World.{World}
 use Rattle.promise_commands.specs.Telling.{Telling}
 use Rattle.promise_walks.specs.Walks.{Both, Does}
 use Rattle.loop_core.specs.Frees.{frees_told, numbers_of}

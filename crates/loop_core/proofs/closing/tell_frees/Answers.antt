@@ -1,8 +1,8 @@
-use Rattle.std.proofs.Common.{◌≡◌, ◌∙◌, ◌<◌, ◌+◌, ℕ, List, [], ◌∷◌, ◌++◌, length, get_or, map, take, refl, sym, ap, subst}
+use Rattle.std.proofs.Common.{◌≡◌, ◌∙◌, ◌<◌, ◌+◌, ℕ, List, [], ◌∷◌, ◌++◌, length, get_or, map, take, sym, ap, subst}
 use Rattle.std.proofs.lemmas.List.{map-append, take_more}
 use Rattle.kj_base.specs.Record.{Item, Free}
 use Rattle.kj_base.specs.declared.numbers.NodeId.{NodeId}
-use Rattle.promise_commands.specs.Telling.{Telling, Hears}
+use Rattle.promise_commands.specs.Telling.{Hears}
 use Rattle.promise_walks.proofs.Composed.{hears_then}
 use Rattle.loop_core.specs.Frees.{numbers_of}
 use Rattle.loop_core.proofs.closing.tell_frees.Goals as goal

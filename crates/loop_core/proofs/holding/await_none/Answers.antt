@@ -1,4 +1,4 @@
-use Rattle.std.proofs.Common.{◌≡◌, None, refl, sym, subst, arith}
+use Rattle.std.proofs.Common.{None, refl, sym, subst, arith}
 use Rattle.promise_walks.specs.Walks.{Both}
 use Rattle.loop_core.proofs.Held.{free_falls, free_gone}
 use Rattle.loop_core.proofs.holding.await_none.Goals as goal

@@ -1,4 +1,4 @@
-use Rattle.std.proofs.Common.{◌≡◌, refl, arith}
+use Rattle.std.proofs.Common.{arith}
 use Rattle.loop_core.proofs.Held.{free_falls}
 use Rattle.loop_core.proofs.holding.disarm.Goals as goal
 

@@ -1,8 +1,8 @@
-use Rattle.std.proofs.Common.{◌≡◌, ◌∙◌, Option, None, Some, refl, sym, ap, subst}
+use Rattle.std.proofs.Common.{Option, None, sym, ap, subst}
 use Rattle.kj_model.specs.Calls.{awaited_freed, with_awaited}
 use Rattle.kj_model.specs.Effects.{disarmed_node}
 use Rattle.kj_model.specs.Value.{freed}
-use Rattle.kj_model.specs.World.{World, State, Awaited}
+use Rattle.kj_model.specs.World.{World, Awaited}
 use Rattle.promise_firing.proofs.Changing.{does_none, does_silent}
 use Rattle.promise_walks.specs.Walks.{Both}
 use Rattle.promise_walks.proofs.Composed.{does_from}

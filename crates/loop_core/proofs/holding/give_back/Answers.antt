@@ -1,7 +1,7 @@
-use Rattle.std.proofs.Common.{◌≡◌, ◌∙◌, Option, ℕ, None, Some, is_some, refl, sym, ap, subst, arith}
+use Rattle.std.proofs.Common.{◌≡◌, Option, ℕ, None, Some, is_some, refl, sym, ap, subst, arith}
 use Rattle.kj_model.specs.Calls.{with_awaited}
 use Rattle.kj_model.specs.Changes.{named}
-use Rattle.kj_model.specs.World.{World, Promise, Held, held_at}
+use Rattle.kj_model.specs.World.{Promise, Held}
 use Rattle.promise_names.specs.Held.{IsListless, awaited_key}
 use Rattle.promise_walks.specs.Walks.{Both}
 use Rattle.promise_nodes.proofs.Same.{named_lists}

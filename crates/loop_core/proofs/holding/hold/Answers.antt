@@ -2,7 +2,6 @@ use Rattle.std.proofs.Common.{◌≡◌, ◌∙◌, Option, ℕ, Some, is_some, 
 use Rattle.kj_model.specs.Calls.{with_awaited}
 use Rattle.kj_model.specs.Changes.{unnamed}
 use Rattle.kj_model.specs.Listening.{listened}
-use Rattle.kj_model.specs.World.{World}
 use Rattle.promise_firing.proofs.Same.{listened_names}
 use Rattle.promise_names.specs.Held.{awaited_key}
 use Rattle.promise_walks.specs.Walks.{Both}

@@ -1,8 +1,8 @@
-use Rattle.std.proofs.Common.{◌≡◌, ◌∙◌, Option, None, Some, refl, sym, ap, subst}
+use Rattle.std.proofs.Common.{◌∙◌, Option, Some, sym, ap, subst}
 use Rattle.kj_model.specs.Calls.{let_go, let_go_of}
 use Rattle.kj_model.specs.Changes.{silent}
 use Rattle.kj_model.specs.Effects.{disarmed_node}
-use Rattle.kj_model.specs.World.{World, State, Awaited}
+use Rattle.kj_model.specs.World.{World, Awaited}
 use Rattle.promise_firing.proofs.Changing.{does_behind, does_none, does_silent}
 use Rattle.promise_names.specs.Held.{awaited_key}
 use Rattle.promise_walks.specs.Walks.{Both}

@@ -1,11 +1,11 @@
-use Rattle.std.proofs.Common.{◌≡◌, ◌∙◌, Option, ℕ, Bool, None, Some, refl, sym, ap, subst}
+use Rattle.std.proofs.Common.{Bool, None, Some, sym, ap, subst}
 use Rattle.kj_model.specs.Calls.{let_go_of, name_back, with_awaited}
-use Rattle.kj_model.specs.Changes.{named, silent}
+use Rattle.kj_model.specs.Changes.{named}
 use Rattle.kj_model.specs.Value.{freed}
-use Rattle.kj_model.specs.World.{World, State, Awaited, Promise, Held, held_at}
+use Rattle.kj_model.specs.World.{World, State, Awaited, Promise, held_at}
 use Rattle.promise_apply.proofs.Uses.{there_is}
 use Rattle.promise_firing.proofs.Changing.{does_none, does_silent}
-use Rattle.promise_names.specs.Held.{SeesHeld, awaited_shown}
+use Rattle.promise_names.specs.Held.{SeesHeld}
 use Rattle.promise_walks.specs.Walks.{Both}
 use Rattle.loop_core.proofs.WaitEnds.{none_there}
 use Rattle.loop_core.proofs.holding.let_go_of.Goals as goal

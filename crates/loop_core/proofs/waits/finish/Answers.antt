@@ -1,7 +1,6 @@
-use Rattle.std.proofs.Common.{◌≡◌, ◌∙◌, None, Some, refl, sym, ap, subst}
+use Rattle.std.proofs.Common.{refl, sym, ap}
 use Rattle.kj_model.specs.Calls.{WaitIdle, wait_done, wait_value_at}
-use Rattle.kj_model.specs.World.{World, State, Setting}
-use Rattle.promise_names.specs.Held.{awaited_shown}
+use Rattle.kj_model.specs.World.{State, Setting}
 use Rattle.promise_walks.specs.Values.{setting_of}
 use Rattle.loop_core.specs.Waits.{StandsIn, valued_at, waited_as}
 use Rattle.loop_core.proofs.Called.{call_from, call_silent}

@@ -1,9 +1,9 @@
-use Rattle.std.proofs.Common.{◌≡◌, ◌∙◌, Option, ℕ, None, Some, Bool, refl, sym, ap, subst}
+use Rattle.std.proofs.Common.{◌∙◌, Bool, sym, ap, subst}
 use Rattle.kj_model.specs.Apply.{Unknown, WrongKind}
-use Rattle.kj_model.specs.Calls.{NotThere, WaitStopped, wait, wait_held, wait_unless}
-use Rattle.kj_model.specs.World.{World, State, Setting, Held, Promise, held_at}
+use Rattle.kj_model.specs.Calls.{NotThere, WaitStopped, wait, wait_unless}
+use Rattle.kj_model.specs.World.{World, Setting, held_at}
 use Rattle.kj_ownership.proofs.Calls.{rests_of}
-use Rattle.promise_names.specs.Held.{SeesHeld, root_of}
+use Rattle.promise_names.specs.Held.{SeesHeld}
 use Rattle.loop_core.specs.Loops.{StandsAt}
 use Rattle.promise_commands.specs.Waits.{waited_of}
 use Rattle.loop_core.specs.Waits.{MayHold, StandsIn, waited_as}
