@@ -52,7 +52,8 @@ fn nanos_of(time: Duration) -> u64 {
         .saturating_add(u64::from(time.subsec_nanos()))
 }
 
-// How often a step runs in so many rounds: the step of a promise loop runs once more, and then gives its input.
+// How often a step runs in so many rounds: the step of a promise loop runs once more, and then gives
+// its input.
 fn runs_of(round: Round, count: u32) -> u64 {
     match round {
         Round::Turns => units_of(round, count).saturating_add(1),
@@ -60,7 +61,8 @@ fn runs_of(round: Round, count: u32) -> u64 {
     }
 }
 
-// So many rounds, so many times over: the least nanoseconds of the thread's own time that one time took.
+// So many rounds, so many times over: the least nanoseconds of the thread's own time that one time
+// took.
 fn time_rounds<R: CpuClock, St: Store + Drop>(
     rt: &R,
     bench: Bench<St>,

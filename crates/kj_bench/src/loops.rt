@@ -1,5 +1,7 @@
-//! Rounds on a loop alone. What is built in a round is run until the queue is empty; where KJ waits for a promise, a step
-//! of a task sees its outcome here. `cancel` isn't built yet, so what a round drops goes with the promise that won.
+//! Rounds on a loop alone. What is built in a round is run until the queue is empty; where KJ waits
+//! for a promise, a step of a task sees its outcome here. `Command::Cancel` is there, but a canceler
+//! never has members yet, since no command wraps a promise; so what a round drops goes with the
+//! promise that won.
 ghost use Rattle.std.specs.Prelude.{◌≡◌, ◌≤◌, ◌%◌};
 
 use crate::loop_steps::{AGAIN, LEAF, PASSES, RoundSteps, UPPER};
@@ -15,7 +17,8 @@ use std::alloc::Global;
 // What is built and run.
 #[derive(Clone, Copy, Debug, PartialEq, Eq)]
 pub(crate) enum Round {
-    // Promises that are ready in a later turn, each with a continuation in a task: all are built, and then all run.
+    // Promises that are ready in a later turn, each with a continuation in a task: all are built,
+    // and then all run.
     Events,
     // The same, a batch being built and run at a time.
     Batches,
@@ -25,7 +28,8 @@ pub(crate) enum Round {
     Branches,
     // Joins of eight promises that are ready in a later turn.
     Joins,
-    // Races of such a promise with the continuation of a pair that nobody settles: the loser goes with the race.
+    // Races of such a promise with the continuation of a pair that nobody settles: the loser goes
+    // with the race.
     Races,
 }
 
@@ -131,7 +135,7 @@ fn hubs_of(round: Round, count: u32) -> u32 {
 // The limits of a loop for so many rounds, so many times over.
 fn limits_of(round: Round, place: Place, count: u32, times: u32) -> Limits
     ensures few { result.slots ≤ MAX_SLOTS }
-    ensures arenas { result.slots % 8 ≡ 0 }
+    ensures arenas { result.slots % ARENA ≡ 0 }
 {
     let hubs = hubs_of(round, count.saturating_mul(times));
     let slots = live_units(round, count)
@@ -154,7 +158,7 @@ fn slots_of_hub(place: Place) -> u32 {
 // At least so many slots that are whole arenas, as far as a loop may have them.
 fn whole_arenas(slots: u32) -> u32
     ensures few { result ≤ MAX_SLOTS }
-    ensures arenas { result % 8 ≡ 0 }
+    ensures arenas { result % ARENA ≡ 0 }
 {
     let arenas = (slots.min(MAX_SLOTS - ARENA + 1) + ARENA - 1) / ARENA;
     arenas * ARENA

@@ -77,7 +77,8 @@ fn measure(
     let octet_rate = rate(octets, micros);
     let item_rate = rate(items, micros);
     println!(rt;
-        "{word}: {count} rounds in {micros} microseconds, {octet_rate} octets and {item_rate} items a second"
+        "{word}: {count} rounds in {micros} microseconds, \
+         {octet_rate} octets and {item_rate} items a second"
     )?;
     Ok(())
 }
@@ -94,7 +95,8 @@ fn measure_race<R: AllocGlobal + Clock + Print + Wait + Threads + Sync>(
     let request_rate = rate(requests, micros);
     let processors = available_parallelism(rt)?;
     println!(rt;
-        "{word}: {requests} requests in {micros} microseconds, {request_rate} a second, on {processors} processors"
+        "{word}: {requests} requests in {micros} microseconds, \
+         {request_rate} a second, on {processors} processors"
     )?;
     Ok(())
 }
