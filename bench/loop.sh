@@ -1,14 +1,16 @@
 #!/usr/bin/env bash
-# bench/loop.sh [KJBENCH]   prints what promises take on a loop alone, with the proved program: nanoseconds of the
-# thread's own time for a unit, the best of five, and octets of memory that the loop reserves for a live unit. KJBENCH is
-# a program that does the same rounds a to e with KJ and prints lines 'a NAME .. NUMBER ns/UNIT .. NUMBER B/live ..', as
-# KJ's own micro-benchmarks do; where it is given, its figures stand behind, from the same sitting. Behind them stand
-# promises with a continuation each in a task, so many of them live at once, from 1,000 nodes up to 3,000,000; and hubs
-# with 1,000 branches each, so many of them in one loop: no round drops a hub's name, so they pile up.
-# Where KJ's rounds wait for a promise, a step of a task sees its outcome here; where they cancel, the loser goes with
-# its race; and KJ's leaf runs a function of its own, and ours none. Where other work keeps the processors busy, both
-# programs' figures are worse: the load stands at the head and the foot. Words that begin with arena- have their nodes
-# in arenas, the others in a table; 1,000,000 arenas are more than a loop may have, so they have batches alone.
+# bench/loop.sh [KJBENCH] prints what promises take on a loop alone, with the proved program:
+# nanoseconds of the thread's own time for a unit, the best of five, and octets of memory that the
+# loop reserves for a live unit. KJBENCH is a program that does the same rounds a to e with KJ and
+# prints lines 'a NAME .. NUMBER ns/UNIT .. NUMBER B/live ..', as KJ's own micro-benchmarks do;
+# where it is given, its figures stand behind, from the same sitting. Behind them stand promises
+# with a continuation each in a task, so many of them live at once, from 1,000 nodes up to
+# 3,000,000; and hubs with 1,000 branches each, so many of them in one loop: no round drops a hub's
+# name, so they pile up. Where KJ's rounds wait for a promise, a step of a task sees its outcome
+# here; where they cancel, the loser goes with its race; and KJ's leaf runs a function of its own,
+# and ours none. Where other work keeps the processors busy, both programs' figures are worse: the
+# load stands at the head and the foot. Words that begin with arena- have their nodes in arenas, the
+# others in a table; 1,000,000 arenas are more than a loop may have, so they have batches alone.
 set -eu
 program=$(cd "$(dirname "$0")/../crates/kj_bench" && pwd)/out/kj_bench
 [ -x "$program" ] || { echo 'run rt ci first: nothing is proved here yet' >&2; exit 1; }

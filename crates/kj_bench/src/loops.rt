@@ -159,6 +159,7 @@ fn slots_of_hub(place: Place) -> u32 {
 fn whole_arenas(slots: u32) -> u32
     ensures few { result ≤ MAX_SLOTS }
     ensures arenas { result % ARENA ≡ 0 }
+    ensures enough { slots ≤ MAX_SLOTS → slots ≤ result }
 {
     let arenas = (slots.min(MAX_SLOTS - ARENA + 1) + ARENA - 1) / ARENA;
     arenas * ARENA
