@@ -20,7 +20,8 @@ use xthread::{Executor, ExecutorPass, Ticket};
 pub(crate) enum Way {
     // It waits for the outcome, while a target serves.
     RoundTrip,
-    // One thread has as many requests outstanding as there would be threads, and waits for all of them, round by round.
+    // One thread has as many requests outstanding as there would be threads, and waits for all of
+    // them, round by round.
     Batch,
     // It withdraws the request at once, and no target serves.
     Submission,
@@ -162,7 +163,8 @@ fn submit_in_four<W: Wait + Threads + Sync>(
     join(
         rt,
         move || -> (Lane, Lane)
-            requires { IsSync W.row × IsIdle executor.now.lock one × IsIdle executor.now.lock two }
+            requires { IsSync W.row
+                × IsIdle executor.now.lock one × IsIdle executor.now.lock two }
             ensures { IsIdle executor.entry.now.lock result.0.0
                 × IsIdle executor.entry.now.lock result.1.0 }
         { submit_in_two(rt, executor, one, two, way, count, done) },
@@ -524,8 +526,8 @@ fn run_four<W: Wait + Threads + Sync + Clock>(
     Ok(time)
 }
 
-// Each submitting thread of the race makes so many requests, which all end: the time from the first submission on, with the
-// start of the threads.
+// Each submitting thread of the race makes so many requests, which all end: the time from the first
+// submission on, with the start of the threads.
 pub(crate) fn run_race<W: Wait + Threads + Sync + Clock>(
     rt: &W,
     alloc: Global,

@@ -1,12 +1,15 @@
-//! Rounds on a loop alone. What is built in a round is run until the queue is empty; where KJ waits for a promise, a step
-//! of a task sees its outcome here. `cancel` isn't built yet, so what a round drops goes with the promise that won.
-ghost use Rattle.std.specs.Prelude.{◌≤◌};
+//! Rounds on a loop alone. What is built in a round is run until the queue is empty; where KJ waits
+//! for a promise, a step of a task sees its outcome here. `Command::Cancel` is there, but a canceler
+//! never has members yet, since no command wraps a promise; so what a round drops goes with the
+//! promise that won.
+ghost use Rattle.std.specs.Prelude.{◌≡◌, ◌≤◌, ◌%◌};
 
 use crate::loop_steps::{AGAIN, LEAF, PASSES, RoundSteps, UPPER};
 use anyhow::{Result, bail};
 use event_links::EventLinks;
-use kj_base::{Limits, MAX_SLOTS, Name, NoMemory, Words};
+use kj_base::{Limits, MAX_SLOTS, Name, NoMemory, Store, Words};
 use loop_core::{Loop, LoopOver, Turned};
+use node_arena::{ARENA, NodeArena};
 use node_table::NodeTable;
 use promise_commands::{Command, MAX_PARTS, Sources};
 use std::alloc::Global;
@@ -14,7 +17,8 @@ use std::alloc::Global;
 // What is built and run.
 #[derive(Clone, Copy, Debug, PartialEq, Eq)]
 pub(crate) enum Round {
-    // Promises that are ready in a later turn, each with a continuation in a task: all are built, and then all run.
+    // Promises that are ready in a later turn, each with a continuation in a task: all are built,
+    // and then all run.
     Events,
     // The same, a batch being built and run at a time.
     Batches,
@@ -24,8 +28,18 @@ pub(crate) enum Round {
     Branches,
     // Joins of eight promises that are ready in a later turn.
     Joins,
-    // Races of such a promise with the continuation of a pair that nobody settles: the loser goes with the race.
+    // Races of such a promise with the continuation of a pair that nobody settles: the loser goes
+    // with the race.
     Races,
+}
+
+// Where the nodes of a loop stand.
+#[derive(Clone, Copy, Debug, PartialEq, Eq)]
+pub(crate) enum Place {
+    // In a table of slots.
+    Table,
+    // In arenas of eight slots each, as those of scripts do.
+    Arenas,
 }
 
 // How many promises or branches a batch has.
@@ -49,33 +63,47 @@ const NAMES: u32 = 20;
 // More turns than any round has.
 const ALL_TURNS: u32 = u32::MAX;
 
-// A loop over a table of nodes and a queue in place.
-type BenchLoop = Loop<NodeTable, EventLinks>;
-
 // A loop with its steps.
 #[derive(Drop)]
-pub(crate) struct Bench {
-    over: BenchLoop,
+pub(crate) struct Bench<St: Store + Drop> {
+    over: Loop<St, EventLinks>,
     pub steps: RoundSteps,
-    // How many hubs there were: each keeps its name, which no command drops yet.
+    // How many hubs there were: each keeps its name, which no round drops.
     hubs: u32,
 }
 
-fn new_loop(alloc: Global, limits: Limits) -> Result<BenchLoop, NoMemory>
-    requires { limits.slots ≤ MAX_SLOTS }
-{
-    let store = NodeTable::new(alloc, limits.slots)?;
-    let queue = EventLinks::new(alloc, limits.slots + 1)?;
-    LoopOver::new(alloc, limits, store, queue)
+fn new_bench<St: Store + Drop>(over: Loop<St, EventLinks>) -> Bench<St> {
+    Bench {
+        over,
+        steps: RoundSteps::new(),
+        hubs: 0,
+    }
 }
 
 // How many slots a unit of a round needs while it is live.
-pub(crate) fn slots_each(round: Round) -> u32 {
+pub(crate) fn slots_each(round: Round, place: Place) -> u32 {
+    match place {
+        Place::Table => slots_in_table(round),
+        Place::Arenas => slots_in_arenas(round),
+    }
+}
+
+// One for each node.
+fn slots_in_table(round: Round) -> u32 {
     match round {
         Round::Events | Round::Batches | Round::Branches => 3,
         Round::Turns => 6,
         Round::Joins => 19,
         Round::Races => 8,
+    }
+}
+
+// An arena for each promise that goes before no other one: the nodes over it stand in it too.
+fn slots_in_arenas(round: Round) -> u32 {
+    match round {
+        Round::Events | Round::Batches | Round::Branches => ARENA,
+        Round::Turns | Round::Races => 3 * ARENA,
+        Round::Joins => 9 * ARENA,
     }
 }
 
@@ -105,32 +133,65 @@ fn hubs_of(round: Round, count: u32) -> u32 {
 }
 
 // The limits of a loop for so many rounds, so many times over.
-fn limits_of(round: Round, count: u32, times: u32) -> Limits
-    ensures { result.slots ≤ MAX_SLOTS }
+fn limits_of(round: Round, place: Place, count: u32, times: u32) -> Limits
+    ensures few { result.slots ≤ MAX_SLOTS }
+    ensures arenas { result.slots % ARENA ≡ 0 }
 {
     let hubs = hubs_of(round, count.saturating_mul(times));
     let slots = live_units(round, count)
-        .saturating_mul(slots_each(round))
-        .saturating_add(hubs);
+        .saturating_mul(slots_each(round, place))
+        .saturating_add(hubs.saturating_mul(slots_of_hub(place)));
     Limits {
-        slots: slots.min(MAX_SLOTS),
+        slots: whole_arenas(slots),
         names: hubs.saturating_add(NAMES),
     }
 }
 
-impl Bench {
-    // For so many rounds, so many times over.
-    pub fn new(alloc: Global, round: Round, count: u32, times: u32) -> Result<Bench, NoMemory> {
-        let over = new_loop(alloc, limits_of(round, count, times))?;
-        Ok(Bench {
-            over,
-            steps: RoundSteps::new(),
-            hubs: 0,
-        })
+// How many slots a hub needs.
+fn slots_of_hub(place: Place) -> u32 {
+    match place {
+        Place::Table => 1,
+        Place::Arenas => ARENA,
     }
 }
 
-fn give(bench: &mut Bench, command: Command) -> Result<()> {
+// At least so many slots that are whole arenas, as far as a loop may have them.
+fn whole_arenas(slots: u32) -> u32
+    ensures few { result ≤ MAX_SLOTS }
+    ensures arenas { result % ARENA ≡ 0 }
+    ensures enough { slots ≤ MAX_SLOTS → slots ≤ result }
+{
+    let arenas = (slots.min(MAX_SLOTS - ARENA + 1) + ARENA - 1) / ARENA;
+    arenas * ARENA
+}
+
+// Over a table, for so many rounds, so many times over.
+pub(crate) fn over_table(
+    alloc: Global,
+    round: Round,
+    count: u32,
+    times: u32,
+) -> Result<Bench<NodeTable>, NoMemory> {
+    let limits = limits_of(round, Place::Table, count, times);
+    let store = NodeTable::new(alloc, limits.slots)?;
+    let queue = EventLinks::new(alloc, limits.slots + 1)?;
+    Ok(new_bench(LoopOver::new(alloc, limits, store, queue)?))
+}
+
+// Over arenas, for so many rounds, so many times over.
+pub(crate) fn over_arenas(
+    alloc: Global,
+    round: Round,
+    count: u32,
+    times: u32,
+) -> Result<Bench<NodeArena>, NoMemory> {
+    let limits = limits_of(round, Place::Arenas, count, times);
+    let store = NodeArena::new(alloc, limits.slots)?;
+    let queue = EventLinks::new(alloc, limits.slots + 1)?;
+    Ok(new_bench(LoopOver::new(alloc, limits, store, queue)?))
+}
+
+fn give<St: Store + Drop>(bench: &mut Bench<St>, command: Command) -> Result<()> {
     if bench.over.apply(command, &mut bench.steps).is_err() {
         bail!("a command was refused");
     }
@@ -138,18 +199,18 @@ fn give(bench: &mut Bench, command: Command) -> Result<()> {
 }
 
 // Turns, until the queue is empty.
-fn run_all(bench: &mut Bench) -> Result<()> {
+fn run_all<St: Store + Drop>(bench: &mut Bench<St>) -> Result<()> {
     if bench.over.run(ALL_TURNS, &mut bench.steps) != Turned::Idle {
         bail!("the queue isn't empty");
     }
     Ok(())
 }
 
-fn later(bench: &mut Bench, name: Name) -> Result<()> {
+fn later<St: Store + Drop>(bench: &mut Bench<St>, name: Name) -> Result<()> {
     give(bench, Command::Later { name })
 }
 
-fn then(bench: &mut Bench, name: Name, source: Name) -> Result<()> {
+fn then<St: Store + Drop>(bench: &mut Bench<St>, name: Name, source: Name) -> Result<()> {
     give(
         bench,
         Command::Then {
@@ -161,17 +222,17 @@ fn then(bench: &mut Bench, name: Name, source: Name) -> Result<()> {
     )
 }
 
-fn detach(bench: &mut Bench, source: Name) -> Result<()> {
+fn detach<St: Store + Drop>(bench: &mut Bench<St>, source: Name) -> Result<()> {
     give(bench, Command::Detach { source })
 }
 
 // A step of a task sees what a promise ends with.
-fn see(bench: &mut Bench, source: Name) -> Result<()> {
+fn see<St: Store + Drop>(bench: &mut Bench<St>, source: Name) -> Result<()> {
     then(bench, SEEN, source)?;
     detach(bench, SEEN)
 }
 
-fn events(bench: &mut Bench, count: u32) -> Result<()> {
+fn events<St: Store + Drop>(bench: &mut Bench<St>, count: u32) -> Result<()> {
     for _ in 0..count {
         later(bench, LEAF)?;
         see(bench, LEAF)?;
@@ -179,14 +240,14 @@ fn events(bench: &mut Bench, count: u32) -> Result<()> {
     run_all(bench)
 }
 
-fn batches(bench: &mut Bench, count: u32) -> Result<()> {
+fn batches<St: Store + Drop>(bench: &mut Bench<St>, count: u32) -> Result<()> {
     for _ in 0..count {
         events(bench, BATCH)?;
     }
     Ok(())
 }
 
-fn turns(bench: &mut Bench, count: u32) -> Result<()> {
+fn turns<St: Store + Drop>(bench: &mut Bench<St>, count: u32) -> Result<()> {
     bench.steps.left = count;
     later(bench, LEAF)?;
     give(
@@ -203,7 +264,7 @@ fn turns(bench: &mut Bench, count: u32) -> Result<()> {
 }
 
 // A hub over a pair, with a batch of branches.
-fn hub(bench: &mut Bench) -> Result<()> {
+fn hub<St: Store + Drop>(bench: &mut Bench<St>) -> Result<()> {
     let hub = Name(FIRST.saturating_add(bench.hubs));
     bench.hubs = bench.hubs.saturating_add(1);
     give(
@@ -221,7 +282,7 @@ fn hub(bench: &mut Bench) -> Result<()> {
     Ok(())
 }
 
-fn branches(bench: &mut Bench, count: u32) -> Result<()> {
+fn branches<St: Store + Drop>(bench: &mut Bench<St>, count: u32) -> Result<()> {
     for _ in 0..count {
         hub(bench)?;
         let mut value = Words::new();
@@ -233,7 +294,7 @@ fn branches(bench: &mut Bench, count: u32) -> Result<()> {
     Ok(())
 }
 
-fn joins(bench: &mut Bench, count: u32) -> Result<()> {
+fn joins<St: Store + Drop>(bench: &mut Bench<St>, count: u32) -> Result<()> {
     for _ in 0..count {
         let mut parts = Sources::new();
         for part in 0..MAX_PARTS {
@@ -248,7 +309,7 @@ fn joins(bench: &mut Bench, count: u32) -> Result<()> {
     Ok(())
 }
 
-fn races(bench: &mut Bench, count: u32) -> Result<()> {
+fn races<St: Store + Drop>(bench: &mut Bench<St>, count: u32) -> Result<()> {
     for _ in 0..count {
         give(
             bench,
@@ -275,7 +336,11 @@ fn races(bench: &mut Bench, count: u32) -> Result<()> {
 }
 
 // So many rounds.
-pub(crate) fn do_rounds(bench: &mut Bench, round: Round, count: u32) -> Result<()> {
+pub(crate) fn do_rounds<St: Store + Drop>(
+    bench: &mut Bench<St>,
+    round: Round,
+    count: u32,
+) -> Result<()> {
     match round {
         Round::Events => events(bench, count),
         Round::Batches => batches(bench, count),

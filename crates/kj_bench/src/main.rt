@@ -15,8 +15,8 @@ use anyhow::{Result, bail, ensure};
 use executor::{RACES, Race, race_named, run_race};
 use http::{SMALL_BODY, WHOLE_BODY, WORKS, Work};
 use http_heads::Head;
-use loop_words::{ROUNDS, TIMES, rounds_named, run_rounds};
-use loops::{Round, slots_each, units_of};
+use loop_words::{ROUNDS, Rounds, TIMES, rounds_named, run_rounds};
+use loops::{slots_each, units_of};
 use std::env;
 use std::rt::{Clock, CpuClock, Env};
 use std::sync::Wait;
@@ -34,8 +34,12 @@ fn all<R: AllocGlobal + Clock + CpuClock + Wait + Threads + Sync>(rt: &R) -> Res
     for (_, race) in RACES.iter() {
         let _time = run_race(rt, rt.alloc(), *race, 1)?;
     }
-    for (_, round) in ROUNDS.iter() {
-        let _nanos = run_rounds(rt, rt.alloc(), *round, 2, 2)?;
+    for (_, round, place) in ROUNDS.iter() {
+        let rounds = Rounds {
+            round: *round,
+            place: *place,
+        };
+        let _nanos = run_rounds(rt, rt.alloc(), rounds, 2, 2)?;
     }
     Ok(())
 }
@@ -73,7 +77,8 @@ fn measure(
     let octet_rate = rate(octets, micros);
     let item_rate = rate(items, micros);
     println!(rt;
-        "{word}: {count} rounds in {micros} microseconds, {octet_rate} octets and {item_rate} items a second"
+        "{word}: {count} rounds in {micros} microseconds, \
+         {octet_rate} octets and {item_rate} items a second"
     )?;
     Ok(())
 }
@@ -90,7 +95,8 @@ fn measure_race<R: AllocGlobal + Clock + Print + Wait + Threads + Sync>(
     let request_rate = rate(requests, micros);
     let processors = available_parallelism(rt)?;
     println!(rt;
-        "{word}: {requests} requests in {micros} microseconds, {request_rate} a second, on {processors} processors"
+        "{word}: {requests} requests in {micros} microseconds, \
+         {request_rate} a second, on {processors} processors"
     )?;
     Ok(())
 }
@@ -99,13 +105,13 @@ fn measure_race<R: AllocGlobal + Clock + Print + Wait + Threads + Sync>(
 fn measure_rounds<R: AllocGlobal + CpuClock + Print>(
     rt: &R,
     word: &str,
-    round: Round,
+    rounds: Rounds,
     count: u32,
 ) -> Result<()> {
-    let nanos = run_rounds(rt, rt.alloc(), round, count, TIMES)?;
-    let units = units_of(round, count);
+    let nanos = run_rounds(rt, rt.alloc(), rounds, count, TIMES)?;
+    let units = units_of(rounds.round, count);
     let each = nanos / units.max(1);
-    let slots = slots_each(round);
+    let slots = slots_each(rounds.round, rounds.place);
     println!(rt;
         "{word}: {units} units in {nanos} nanoseconds, {each} nanoseconds a unit, of {slots} slots"
     )?;
@@ -126,8 +132,8 @@ fn run<R: AllocGlobal + Clock + CpuClock + Env + Print + Wait + Threads + Sync>(
     if let Some(race) = race_named(word.as_str()) {
         return measure_race(rt, word.as_str(), race, count.as_str().parse::<u32>()?);
     }
-    if let Some(round) = rounds_named(word.as_str()) {
-        return measure_rounds(rt, word.as_str(), round, count.as_str().parse::<u32>()?);
+    if let Some(rounds) = rounds_named(word.as_str()) {
+        return measure_rounds(rt, word.as_str(), rounds, count.as_str().parse::<u32>()?);
     }
     let Some(work) = http::named(word.as_str()) else {
         bail!("no such word: {word}");
