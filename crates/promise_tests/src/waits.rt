@@ -47,12 +47,8 @@ fn wait(over: &mut TableLoop, name: u32, turns: u32, steps: &mut Teller) {
     }
 }
 
-// What these commands, waits and the closing of a new loop tell, and what the closing answers.
-fn told_by<const N: usize>(
-    alloc: Global,
-    commands: [Command; N],
-    waits: &[Wait],
-) -> Result<Vec<Told>, NoMemory> {
+// What two commands, these waits and the closing of a new loop tell, and what the closing answers.
+fn told_by(alloc: Global, commands: [Command; 2], waits: &[Wait]) -> Result<Vec<Told>, NoMemory> {
     let mut over = new_loop(alloc)?;
     let mut steps = Teller::new(alloc, ROOM)?;
     for command in commands {
@@ -87,17 +83,20 @@ fn a_wait_gives_the_outcome(rt: HostRuntime) -> Result<(), Fail> {
 
 #[test]
 fn a_wait_that_ends_gives_the_name_back(rt: HostRuntime) -> Result<(), Fail> {
+    let commands = [pair(1, 2), later(3)];
     let told = [
         Told::OutOfTurns,
         Told::Turned(Turned::Idle),
         Told::Turned(Turned::Idle),
         Told::Refused(Refused::WrongKind(Name(2))),
         freed(1),
+        freed(2),
         answered(1),
+        answered(2),
     ];
     let waits = [(1, 0), (1, 5), (1, 5), (2, 5)];
     assert_eq!(rt;
-        told_by(rt.alloc(), [pair(1, 2)], &waits)?.as_slice(),
+        told_by(rt.alloc(), commands, &waits)?.as_slice(),
         told.as_slice()
     );
     Ok(())
