@@ -23,7 +23,7 @@ use Rattle.loop_core.proofs.Called.{Found, call_silent}
 
 -- the promise is taken out of its name, and the wait listens
 pub wait_begins : (rule : Rule) (OldNodes OldNames NewNodes NewNames : World → Type 0) (name root n : ℕ) (a : Telling) (k : ℕ)
-    → ((w : World) → Both OldNodes OldNames w → Both NewNodes NewNames (held_awaited name root w))
+    → ((w : World) → Both OldNodes OldNames w → held_at name w.names ≡ Some (Promise root) → Both NewNodes NewNames (held_awaited name root w))
     → Found (MayHold rule OldNodes OldNames name root) (Waits rule NewNodes NewNames) rule (λ setting. wait setting name n) (λ setting. wait_more setting n) a a k k
 wait_begins rule OldNodes OldNames NewNodes NewNames name root n a k begins = record {
   call = record {
@@ -34,7 +34,7 @@ wait_begins rule OldNodes OldNames NewNodes NewNames name root n a k begins = re
     leads = λ answer s old agrees lacking. record {
       state = silent (held_awaited name root) s;
       stands = record {
-        rested = record { takes = old.stands.takes; stands = begins s.world old.stands.stands; rests = held_rests name root s old.held old.stands.kept.none_awaited (rests_of s old.stands.kept) };
+        rested = record { takes = old.stands.takes; stands = begins s.world old.stands.stands old.held; rests = held_rests name root s old.held old.stands.kept.none_awaited (rests_of s old.stands.kept) };
         runs = ap (λ (w : World). w.stopped) (listened_only root (with_awaited (Some (record { name = name; root = root })) (unnamed name s.world))).same ∙ old.runs;
       };
       past_is = sym (append-nil s.past);

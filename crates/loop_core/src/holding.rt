@@ -27,6 +27,7 @@ pub(crate) fn hold<N: Nodes + Drop, M: Names + Drop>(
     requires named { M.roots ground.old.names name.0 ≡ Some root.number.0 }
     ensures stands { (w : World)
         → Both (N.stands ground.old.nodes) (M.stands ground.old.names) w
+        → held_at name.0 w.names ≡ Some (Promise root.number.0)
         → Both (N.stands ground.new.nodes) (M.stands ground.new.names)
         (held_awaited name.0 root.number.0 w) }
     ensures slots { N.slots ground.new.nodes ≡ N.slots ground.old.nodes }

@@ -14,6 +14,7 @@ use Rattle.kj_model.specs.Calls.{detached_closed}
 use Rattle.kj_model.proofs.Falling.{node_frees}
 use Rattle.kj_model.proofs.Spared.{form_without_same}
 use Rattle.promise_nodes.specs.Kept.{is_live, newest_task}
+use Rattle.promise_nodes.specs.Members.{newest_member}
 use Rattle.promise_walks.proofs.Entered.{free_none}
 use Rattle.promise_firing.specs.Closed.{free_one, found_freed, live_below}
 
@@ -95,7 +96,7 @@ none_case : (b : Bool) (m : ℕ) (ms : List ℕ) (s : State) → is_live s.world
 none_case true m ms s e h more = absurd (some_none m (sym (find_here (is_live s.world) m ms e) ∙ h))
 none_case false m ms s e h more = ap (λ (u : State). each_freed free_one ms u) (not_again (Holding []) m s (dead_is (form_at m s.world.nodes) e)) ∙ more (sym (find_later (is_live s.world) m ms e) ∙ h)
 
-none_first : (l : List ℕ) (s : State) → find (is_live s.world) l ≡ None → each_freed free_one l s ≡ s
+pub none_first : (l : List ℕ) (s : State) → find (is_live s.world) l ≡ None → each_freed free_one l s ≡ s
 none_first [] s h = refl
 none_first (m ∷ ms) s h = none_case (is_live s.world m) m ms s refl h (none_first ms s)
 
@@ -154,7 +155,7 @@ pub some_live : (k t : ℕ) (w : World) → t < k → is_live w t ≡ true → 0
 some_live zero t w below live = absurd (omega (arith, below))
 some_live (suc k) t w below live = some_case (nat_eq t k) k t w refl below live (λ less. some_live k t w less live)
 
--- ---- the newest task
+-- ---- the newest member
 
 found_case : (b : Bool) (p : ℕ → Bool) (m t : ℕ) (ms : List ℕ) → p m ≡ b → find p (m ∷ ms) ≡ Some t → (find p ms ≡ Some t → (p t ≡ true) × (is_in t ms ≡ true)) → (p t ≡ true) × (is_in t (m ∷ ms) ≡ true)
 found_case true p m t ms e h more =
@@ -185,17 +186,17 @@ in_reverse n (m ∷ ms) =
     ∙ ap (λ (b : Bool). b || (nat_eq m n || false)) (in_reverse n ms)
     ∙ swap (is_in n ms) (nat_eq m n)
 
--- the newest task lives, and stands in the set
-pub newest_lives : (t : ℕ) (w : World) → newest_task w ≡ Some t → (is_live w t ≡ true) × (is_in t w.detached ≡ true)
-newest_lives t w h = let r = found (is_live w) t (reverse w.detached) h in (r.0, sym (in_reverse t w.detached) ∙ r.1)
+-- the newest member lives, and stands in the list
+pub newest_lives : (t : ℕ) (w : World) (ms : List ℕ) → newest_member w ms ≡ Some t → (is_live w t ≡ true) × (is_in t ms ≡ true)
+newest_lives t w ms h = let r = found (is_live w) t (reverse ms) h in (r.0, sym (in_reverse t ms) ∙ r.1)
 
-none_newest : (o : Option ℕ) (w : World) → newest_task w ≡ o → ((t : ℕ) → o ≡ Some t → ⊥) → newest_task w ≡ None
-none_newest None w e f = e
-none_newest (Some t) w e f = absurd (f t refl)
+none_newest : (o : Option ℕ) (w : World) (ms : List ℕ) → newest_member w ms ≡ o → ((t : ℕ) → o ≡ Some t → ⊥) → newest_member w ms ≡ None
+none_newest None w ms e f = e
+none_newest (Some t) w ms e f = absurd (f t refl)
 
--- no task lives where no node below the next one does
-pub no_newest : (k : ℕ) (w : World) → ((t : ℕ) → is_in t w.detached ≡ true → t < k) → live_below k w ≤ 0 → newest_task w ≡ None
-no_newest k w below none = none_newest (newest_task w) w refl (λ t e. let r = newest_lives t w e in let some = some_live k t w (below t r.1) r.0 in omega (arith, some, none))
+-- no member lives where no node below the next one does
+pub no_newest : (k : ℕ) (w : World) (ms : List ℕ) → ((t : ℕ) → is_in t ms ≡ true → t < k) → live_below k w ≤ 0 → newest_member w ms ≡ None
+no_newest k w ms below none = none_newest (newest_member w ms) w ms refl (λ t e. let r = newest_lives t w ms e in let some = some_live k t w (below t r.1) r.0 in omega (arith, some, none))
 
 -- ---- what is left over
 

@@ -3,11 +3,11 @@ pub mod Changing
 pub mod Emptied
 pub mod Fired
 pub mod Kept
-pub mod Held
 pub mod Hubs
 pub mod Lists
 pub mod Named
 pub mod Replacing
 pub mod Same
+pub mod Sets
 pub mod Tasks
 pub mod Unlisted

@@ -74,7 +74,7 @@ renamed_members old new (AskCell cell is_taken) = refl
 renamed_members old new (HubOf hub) = refl
 renamed_members old new (Group error tasks empty) = refl
 renamed_members old new (Canceler wraps) = refl
-renamed_members old new (RequestOf node) = refl
+renamed_members old new (RequestOf request) = refl
 
 replaced_case : (b : Bool) (old new name : ℕ) (y : Named) (ys : List Named) → (y.name == name) ≡ b → members_of (held_at name (map (named_renamed old new) ys)) ≡ members_of (held_at name ys)
     → members_of (held_at name (map (named_renamed old new) (y ∷ ys))) ≡ members_of (held_at name (y ∷ ys))

@@ -7,6 +7,7 @@ ghost use Rattle.promise_firing.specs.Closed.{hub_name_closed, name_closed};
 ghost use Rattle.promise_firing.specs.Ground.{IsSound, Keeps, ground};
 
 use crate::closing::{close_found, close_tree};
+use crate::closing_sets::close_tasks;
 use kj_base::{Link, Name};
 use promise_commands::Steps;
 use promise_names::{Held, Names};
@@ -42,7 +43,8 @@ fn close_hub_name<N: Nodes, M: Names, S: Steps>(
     free_unreferenced(nodes, names, frames, search, guard, hub, steps);
 }
 
-// What a name held goes: a tree, or the reference of a hub. A cell, a canceler and a set hold nothing that is freed.
+// What a name held goes: a tree, or the reference of a hub. A cell and a canceler hold nothing that is freed, and a set
+// nothing but tasks.
 fn close_held<N: Nodes, M: Names, S: Steps>(
     nodes: &mut N,
     names: &mut M,
@@ -77,7 +79,7 @@ fn close_held<N: Nodes, M: Names, S: Steps>(
     }
 }
 
-// A name goes, and then what it held.
+// The tasks of a name go, then the name, and then what else it held.
 fn close_name<N: Nodes, M: Names, S: Steps>(
     nodes: &mut N,
     names: &mut M,
@@ -102,6 +104,8 @@ fn close_name<N: Nodes, M: Names, S: Steps>(
     ensures over { M.over names.new ≡ M.over names.old }
 {
     let held = names.get(name);
+    close_tasks(nodes, names, frames, search, name, steps);
+    nodes.clear_list(name);
     names.remove(name);
     if let Some(held) = held {
         close_held(nodes, names, frames, search, held, steps);

@@ -6,6 +6,7 @@ mod chain;
 mod closing;
 mod closing_all;
 mod closing_names;
+mod closing_sets;
 mod event;
 mod going;
 mod keeping;

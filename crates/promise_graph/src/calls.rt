@@ -6,7 +6,7 @@ use crate::{
     building, events, finding, fitting, freeing, hubs, listing, own_set, owners, putting,
     replacing, visits,
 };
-use kj_base::{Form, Link, Queue, Store};
+use kj_base::{Form, Link, Name, Queue, Store};
 use promise_nodes::{Mark, NodeRow, Nodes, Way};
 
 impl<St: Store + Drop, Q: Queue + Drop> Nodes for Graph<St, Q> {
@@ -115,6 +115,30 @@ impl<St: Store + Drop, Q: Queue + Drop> Nodes for Graph<St, Q> {
         own_set::oldest_hub(&self.fields)
     }
 
+    fn join_list(&mut self, node: Link, list: Name) {
+        listing::join_list(&self.fields, &mut self.memberships, node, list);
+    }
+
+    fn leave_list(&mut self, node: Link, list: Name) {
+        listing::leave_list(&self.fields, &mut self.memberships, node, list);
+    }
+
+    fn clear_list(&mut self, list: Name) {
+        listing::clear_list(&self.fields, &mut self.memberships, list);
+    }
+
+    fn list_of(&self, node: Link) -> Option<Name> {
+        listing::list_of(&self.fields, &self.memberships, node)
+    }
+
+    fn newest_member(&self, list: Name) -> Option<Link> {
+        listing::newest_member(&self.fields, &self.memberships, list)
+    }
+
+    fn older_member(&self, node: Link) -> Option<Link> {
+        listing::older_member(&self.fields, &self.memberships, node)
+    }
+
     fn arm(&mut self, way: Way, node: Link) {
         events::arm(&mut self.fields, way, node);
     }
@@ -161,6 +185,10 @@ impl<St: Store + Drop, Q: Queue + Drop> Nodes for Graph<St, Q> {
     ghost plain_is = { λ g w n st h. st.nodes.plain n h };
 
     ghost tasks_built = { λ g w n st h. st.nodes.tasks n h };
+
+    ghost members_built = { λ g w list n st i. st.lists.below list n i };
+
+    ghost lists_apart = { λ g w st. st.lists.apart };
 
     ghost once = { λ g w st. st.nodes.stands.seen.nodes.once };
 

@@ -13,7 +13,6 @@ mod hubs;
 mod index;
 mod listing;
 mod making;
-mod member_calls;
 mod memberships;
 mod own_set;
 mod owners;

@@ -7,7 +7,7 @@ use kj_base::{
     Form, Limits, Link, MAX_SLOTS, Name, NoMemory, NodeId, Outcome, Queue, Store, Words,
 };
 use node_table::NodeTable;
-use promise_nodes::{HasMembers, Mark, NodeRow, Nodes, Way};
+use promise_nodes::{Mark, NodeRow, Nodes, Way};
 use std::alloc::Global;
 use std::test::Fail;
 

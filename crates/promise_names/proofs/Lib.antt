@@ -1,1 +1,2 @@
 pub mod Listless
+pub mod Rising

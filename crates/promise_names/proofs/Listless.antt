@@ -14,7 +14,7 @@ none_listed (Some (AskCell cell is_taken)) l = refl
 none_listed (Some (HubOf hub)) l = refl
 none_listed (Some (Group error tasks empty)) l = absurd l
 none_listed (Some (Canceler wraps)) l = absurd l
-none_listed (Some (RequestOf node)) l = refl
+none_listed (Some (RequestOf request)) l = refl
 
 -- a set or a canceler that is new
 pub none_shown : (held : HeldCase) → members_of (Some (held_shown [] held)) ≡ []
@@ -24,4 +24,4 @@ none_shown (AskCase cell is_taken) = refl
 none_shown (HubCase hub) = refl
 none_shown (GroupCase error empty) = refl
 none_shown CancelerCase = refl
-none_shown (RequestCase node) = refl
+none_shown (RequestCase request) = refl

@@ -36,6 +36,11 @@ SeesHeld None (Some seen) = ⊥
 SeesHeld (Some held) None = ⊥
 SeesHeld (Some held) (Some seen) = IsHeld held seen
 
+-- a set
+abbrev pub IsSet : Option Held → Type 0
+IsSet (Some (Group error tasks empty)) = Unit {0}
+IsSet other = ⊥
+
 -- neither a set nor a canceler
 abbrev pub IsListless : Option Held → Type 0
 IsListless (Some (Group error tasks empty)) = ⊥

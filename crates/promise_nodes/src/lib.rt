@@ -1,8 +1,6 @@
 //! The nodes of a loop, by number, as the layers above the graph see them.
 #![tactic(auto)]
 
-mod members;
 mod nodes;
 
-pub use members::HasMembers;
 pub use nodes::{Mark, NodeRow, Nodes, Way};

@@ -12,10 +12,10 @@ ghost use Rattle.kj_model.specs.Effects.{with_branch_in, with_detached, disarmed
 ghost use Rattle.kj_model.specs.Calls.{rewound_world, taken_world, hubs_of};
 ghost use Rattle.promise_nodes.specs.Shown.{shown, link_number, Sees, SeesOwner, way_of};
 ghost use Rattle.promise_nodes.specs.Once.{AreOnce};
-ghost use Rattle.promise_nodes.specs.Members.{AreLists, lists_in};
+ghost use Rattle.promise_nodes.specs.Members.{AreApart, AreLists, IsListOf, IsNoMember, lists_in, newest_member, with_member, without_member, without_members};
 ghost use Rattle.promise_nodes.specs.Kept.{SameNodes, IsLive, newest_task, without_detached, IsEvent, IsBranch, IsPart, IsReplaceable, KeepsKind, is_unreferenced, awaited_root, rows_left, OnlyFalls, OnlyRises, RisesIn, IsPlain, ShowsPlain, AreRoots, AreBuilt, AddsNone, AreRowsBuilt, put_form, rows_seen, tree_replaced, AreUnmarked, IsMarked, Same, SameRows};
 
-use kj_base::{Form, Link};
+use kj_base::{Form, Link, Name};
 
 /// The three ways to arm an event.
 #[derive(Clone, Copy, Debug, PartialEq, Eq)]
@@ -50,7 +50,9 @@ impl Default for NodeRow {
     }
 }
 
-/// Keeps the nodes of a loop, its event queue, the event that fires and the tree that a wait awaits; it knows no names.
+/// Keeps the nodes of a loop, its event queue, the event that fires and the tree that a wait awaits; it knows of names only
+/// which nodes are members of which list: a Task is a member of its set, and a Wrap of its canceler, and a list has the name
+/// of its set or canceler. A member that doesn't live any more is one of the world's until it leaves, but it isn't kept.
 /// A link says which node is meant by its number; its slot only finds it sooner. No call takes memory.
 ///
 /// The contracts speak of each world that it stands for: of its nodes, queue, spots, limits, firing event and awaited
@@ -277,6 +279,71 @@ pub trait Nodes {
             → stands self.now w
             → link_number result ≡ first_of (hubs_of w.nodes) };
 
+    /// A live node that is a member of no list is the newest member of one.
+    fn join_list(&mut self, node: Link, list: Name)
+        ensures stands { (w v : World)
+            → stands self.old w
+            → IsLive w node.number.0
+            → IsNoMember node.number.0 (lists_in w)
+            → SameNodes w v
+            → AreLists v (with_member list.0 node.number.0 (lists_in w))
+            → stands self.new v }
+        ensures taken { Same (is_taken self.old) (is_taken self.new) }
+        ensures listed { Same (is_listed self.old) (is_listed self.new) }
+        ensures plain { Same (is_plain self.old) (is_plain self.new) }
+        ensures room { SameRows (room self.old) (room self.new) }
+        ensures next { next self.new ≡ next self.old }
+        ensures slots { slots self.new ≡ slots self.old };
+
+    /// A node leaves a list, if it is a member of this one.
+    fn leave_list(&mut self, node: Link, list: Name)
+        ensures stands { (w v : World)
+            → stands self.old w
+            → SameNodes w v
+            → AreLists v (without_member list.0 node.number.0 (lists_in w))
+            → stands self.new v }
+        ensures taken { Same (is_taken self.old) (is_taken self.new) }
+        ensures listed { Same (is_listed self.old) (is_listed self.new) }
+        ensures plain { Same (is_plain self.old) (is_plain self.new) }
+        ensures room { SameRows (room self.old) (room self.new) }
+        ensures next { next self.new ≡ next self.old }
+        ensures slots { slots self.new ≡ slots self.old };
+
+    /// All members leave a list.
+    fn clear_list(&mut self, list: Name)
+        ensures stands { (w v : World)
+            → stands self.old w
+            → SameNodes w v
+            → AreLists v (without_members list.0 (lists_in w))
+            → stands self.new v }
+        ensures taken { Same (is_taken self.old) (is_taken self.new) }
+        ensures listed { Same (is_listed self.old) (is_listed self.new) }
+        ensures plain { Same (is_plain self.old) (is_plain self.new) }
+        ensures room { SameRows (room self.old) (room self.new) }
+        ensures next { next self.new ≡ next self.old }
+        ensures slots { slots self.new ≡ slots self.old };
+
+    /// The list that a live node is a member of.
+    fn list_of(&self, node: Link) -> Option<Name>
+        ensures { (w : World)
+            → stands self.now w
+            → IsLive w node.number.0
+            → IsListOf node.number.0 (lists_in w) result };
+
+    /// The newest live member of a list.
+    fn newest_member(&self, list: Name) -> Option<Link>
+        ensures { (w : World)
+            → stands self.now w
+            → link_number result ≡ newest_member w (lists_in w list.0) };
+
+    /// The newest of the live members that are older than this one, which lives.
+    fn older_member(&self, node: Link) -> Option<Link>
+        ensures { (w : World) (list : ℕ) (front back : List ℕ)
+            → stands self.now w
+            → IsLive w node.number.0
+            → lists_in w list ≡ front ++ node.number.0 ∷ back
+            → link_number result ≡ newest_member w front };
+
     /// The event of a live node, or of the wait, is armed.
     fn arm(&mut self, way: Way, node: Link)
         ensures stands { (w : World)
@@ -389,6 +456,17 @@ pub trait Nodes {
         → stands nodes w
         → is_in n w.detached ≡ true
         → n < next nodes };
+
+    /// The members were built.
+    ghost members_built: { (nodes : Self) (w : World) (list n : ℕ)
+        → stands nodes w
+        → is_in n (lists_in w list) ≡ true
+        → n < next nodes };
+
+    /// No node is a member of two lists.
+    ghost lists_apart: { (nodes : Self) (w : World)
+        → stands nodes w
+        → AreApart (lists_in w) };
 
     /// No node stands twice.
     ghost once: { (nodes : Self) (w : World) → stands nodes w → AreOnce w.nodes };

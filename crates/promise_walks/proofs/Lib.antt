@@ -1,6 +1,7 @@
 pub mod Answering
 pub mod Bare
 pub mod Climbed
+pub mod Commuted
 pub mod Composed
 pub mod Costs
 pub mod Entered

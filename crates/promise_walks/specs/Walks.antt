@@ -1,11 +1,13 @@
 -- What walks do, against the definitions.
-use Rattle.std.specs.Prelude.{◌≡◌, ℕ, List, ◌++◌, Option, option_to_list}
+use Rattle.std.specs.Prelude.{◌≡◌, ℕ, List, ◌++◌, Option, Some, Bool, true, false, option_to_list}
 use Rattle.kj_base.specs.Record.{Item}
 use Rattle.promise_commands.specs.Telling.{Telling, Hears}
 use Rattle.kj_model.specs.World.{World, State}
 use Rattle.kj_model.specs.Changes.{silent}
 use Rattle.kj_model.specs.Free.{Guard, Holding, Every}
 use Rattle.promise_nodes.specs.Shown.{link_number}
+use Rattle.promise_names.specs.declared.names.Held.{Held as HeldCase}
+use Rattle.promise_names.specs.declared.names.Held.TheVariants.{Canceler as CancelerCase}
 use Rattle.promise_names.specs.declared.names.Leaving.{Leaving}
 use Rattle.promise_names.specs.Held.{left_world}
 use Rattle.promise_walks.specs.declared.guard.Guard.{Guard as GuardCase}
@@ -15,6 +17,11 @@ use Rattle.promise_walks.specs.declared.guard.Guard.TheVariants.{Holding as Hold
 abbrev pub guard_of : GuardCase → Guard
 guard_of (HoldingCase node) = Holding (option_to_list (link_number node))
 guard_of EveryCase = Every
+
+-- whether a name is seen to hold a canceler
+abbrev pub is_canceler : Option HeldCase → Bool
+is_canceler (Some CancelerCase) = true
+is_canceler other = false
 
 -- the same, not told
 abbrev pub left_as : ℕ → Leaving → State → State

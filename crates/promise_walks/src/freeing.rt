@@ -5,21 +5,21 @@ ghost use Rattle.promise_commands.specs.Telling.{Hears};
 ghost use Rattle.kj_model.specs.World.{World};
 ghost use Rattle.kj_model.specs.Nodes.{form_at};
 ghost use Rattle.kj_model.specs.Changes.{gone_world};
-ghost use Rattle.kj_model.specs.Free.{free_to, is_guarded, reference_gone};
+ghost use Rattle.kj_model.specs.Free.{free_to, is_guarded, reference_gone, without_wrap};
 ghost use Rattle.kj_model.specs.Value.{freed};
 ghost use Rattle.promise_nodes.specs.Kept.{OnlyFalls, OnlyRises};
 ghost use Rattle.promise_walks.specs.Shapes.{SeesShape};
 ghost use Rattle.promise_names.specs.Held.{left_world};
-ghost use Rattle.promise_walks.specs.Walks.{Both, Does, Moves, guard_of};
+ghost use Rattle.promise_walks.specs.Walks.{Both, Does, Moves, guard_of, is_canceler};
 ghost use Rattle.promise_walks.specs.Stacks.{AreUnlisted, Enters, cost, falls_count, finish, weigh};
 
 use crate::guard::Guard;
 use crate::holding::is_kept;
 use crate::pushing::{is_deep, put_last};
 use crate::shape::{Parts, Shape, shape_at};
-use kj_base::Link;
+use kj_base::{Link, Name};
 use promise_commands::Steps;
-use promise_names::{Leaving, Names};
+use promise_names::{Held, Leaving, Names};
 use promise_nodes::Nodes;
 
 /// A node whose parts go, the parts that are still there, and what it leaves then.
@@ -134,6 +134,44 @@ fn open<N: Nodes, M: Names>(
     put_last(stack, frame);
 }
 
+fn is_canceler(held: Option<Held>) -> bool
+    ensures { result ≡ is_canceler held }
+{
+    matches!(held, Some(Held::Canceler))
+}
+
+// A Wrap leaves its canceler, where that is there.
+fn leave_canceler<N: Nodes, M: Names>(nodes: &mut N, names: &M, wrap: Link, canceler: Name)
+    ensures stands { (w : World) → Both (N.stands nodes.old) (M.stands names.now) w
+        → N.stands nodes.new (without_wrap wrap.number.0 canceler.0 w) }
+    ensures taken { OnlyFalls (N.is_taken nodes.old) (N.is_taken nodes.new) }
+    ensures listed { OnlyFalls (N.is_listed nodes.old) (N.is_listed nodes.new) }
+    ensures plain { OnlyRises (N.is_plain nodes.old) (N.is_plain nodes.new) }
+    ensures next { N.next nodes.new ≡ N.next nodes.old }
+    ensures slots { N.slots nodes.new ≡ N.slots nodes.old }
+{
+    if is_canceler(names.get(canceler)) {
+        nodes.leave_list(wrap, canceler);
+    }
+}
+
+// The nodes' part of what a node leaves when it goes.
+fn leave<N: Nodes, M: Names>(nodes: &mut N, names: &M, node: Link, leaving: Leaving)
+    ensures stands { (w : World) → Both (N.stands nodes.old) (M.stands names.now) w
+        → N.stands nodes.new (left_world node.number.0 leaving w) }
+    ensures taken { OnlyFalls (N.is_taken nodes.old) (N.is_taken nodes.new) }
+    ensures listed { OnlyFalls (N.is_listed nodes.old) (N.is_listed nodes.new) }
+    ensures plain { OnlyRises (N.is_plain nodes.old) (N.is_plain nodes.new) }
+    ensures next { N.next nodes.new ≡ N.next nodes.old }
+    ensures slots { N.slots nodes.new ≡ N.slots nodes.old }
+{
+    match leaving {
+        Leaving::Nothing => {}
+        Leaving::Cell => {}
+        Leaving::Wrap(canceler) => leave_canceler(nodes, names, node, canceler),
+    }
+}
+
 // A node goes whose parts are gone.
 fn close<N: Nodes, M: Names, S: Steps>(nodes: &mut N, names: &mut M, frame: Frame, steps: &mut S)
     requires unlisted { N.is_listed nodes.old frame.node.number.0 ≡ false }
@@ -152,6 +190,7 @@ fn close<N: Nodes, M: Names, S: Steps>(nodes: &mut N, names: &mut M, frame: Fram
     ensures limit { M.limit names.new ≡ M.limit names.old }
     ensures over { M.over names.new ≡ M.over names.old }
 {
+    leave(nodes, names, frame.node, frame.leaving);
     names.left(frame.node, frame.leaving);
     nodes.drop_node(frame.node);
     steps.freed(frame.node.number);

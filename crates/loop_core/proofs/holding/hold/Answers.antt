@@ -5,6 +5,7 @@ use Rattle.kj_model.specs.Listening.{listened}
 use Rattle.promise_firing.proofs.Same.{listened_names}
 use Rattle.promise_names.specs.Held.{awaited_key}
 use Rattle.promise_walks.specs.Walks.{Both}
+use Rattle.promise_nodes.specs.Members.{members_of}
 use Rattle.promise_nodes.proofs.Same.{unnamed_lists}
 use Rattle.loop_core.proofs.Held.{free_falls, free_moved}
 use Rattle.loop_core.proofs.holding.hold.Goals as goal
@@ -30,12 +31,12 @@ hold-requires g c =
     record { room = omega (arith, ready.few, gone, c.remove.ensures.limit) }
 
 pub returns-clause-stands : goal.returns-clause-stands
-returns-clause-stands g c w both =
+returns-clause-stands g c w both held =
     let name = c.args.name.0 in
     let root = c.args.root.number.0 in
     let inner = subst (λ k. Both (g.N.Nodes.stands k.nodes) (g.M.Names.stands k.names) w) (sym c.ground.view_is) both in
     let v = unnamed name w in
     let u = with_awaited (Some (record { name = name; root = root })) v in
-    let nodes = c.set_awaited.ensures.stands v (Some (record { name = name; root = root })) (g.met.N.Nodes.names_free c.ground.inside.keepers.nodes w v refl (unnamed_lists name w (g.met.M.Names.no_members c.ground.inside.keepers.names w name inner.1)) inner.0) refl in
+    let nodes = c.set_awaited.ensures.stands v (Some (record { name = name; root = root })) (g.met.N.Nodes.names_free c.ground.inside.keepers.nodes w v refl (unnamed_lists name w (ap members_of held)) inner.0) refl in
     let names = c.hold.ensures.stands v (c.remove.ensures.stands w inner.1) in
     (c.listen.ensures.stands u nodes, g.met.M.Names.nodes_free c.hold.new.self u (listened root u) (listened_names root u) names)

@@ -38,7 +38,7 @@ closing-preserved g c =
     let Q : World → Type 0 = λ w. C w × (live_below then w ≤ c.closing.left - 1) in
     let newest : (w : World) → B w → newest_task w ≡ Some task = λ w stands. sym (c.newest_task.ensures w stands.0) ∙ ap link_number c.in-Some.is in
     let falls : (s : State) → P s.world → live_below then (free_one task s).world ≤ c.closing.left - 1 = λ s p.
-    let lives = newest_lives task s.world (newest s.world p.0) in
+    let lives = newest_lives task s.world s.world.detached (newest s.world p.0) in
     let fewer = fewer_live (Holding []) next task s (g.met.N.Nodes.tasks_built c.closing.nodes s.world task p.0.0 lives.1) lives.0 in
     let same : live_below then (free_one task s).world ≡ live_below next (free_one task s).world = ap (λ (k : ℕ). live_below k (free_one task s).world) done.kept.next_is in
     let few = p.1 in
@@ -66,4 +66,4 @@ returns-clause-does g c =
     let P : World → Type 0 = λ w. B w × (live_below next w ≤ c.closing.left) in
     let zero_left : c.closing.left ≡ 0 = omega (arith, c.closing-test.false) in
     does_ends A P B detached_closed detached_closed _ _ (λ w p. p.0)
-    (λ s p. none_goes s (no_newest next s.world (λ t h. g.met.N.Nodes.tasks_built c.closing.nodes s.world t p.0.0 h) (subst (λ (k : ℕ). live_below next s.world ≤ k) zero_left p.1))) c.closing.invariant.does
+    (λ s p. none_goes s (no_newest next s.world s.world.detached (λ t h. g.met.N.Nodes.tasks_built c.closing.nodes s.world t p.0.0 h) (subst (λ (k : ℕ). live_below next s.world ≤ k) zero_left p.1))) c.closing.invariant.does

@@ -1,7 +1,7 @@
 use Rattle.promise_nodes.specs.Members.{lists_in}
 use Rattle.promise_graph.proofs.Frames.{lists_seen, given_of}
 use Rattle.promise_graph.proofs.Marked.{stands_seen}
-use Rattle.promise_graph.proofs.member_calls.GraphHasMembers.list_of.Goals as goal
+use Rattle.promise_graph.proofs.calls.GraphNodes.list_of.Goals as goal
 
 pub returns : goal.returns
 returns g c w st live =

@@ -2,7 +2,7 @@ use Rattle.promise_nodes.specs.Members.{lists_in}
 use Rattle.std.proofs.Common.{◌∙◌}
 use Rattle.promise_graph.proofs.Frames.{lists_seen, given_of, newest_live}
 use Rattle.promise_graph.proofs.Marked.{stands_seen}
-use Rattle.promise_graph.proofs.member_calls.GraphHasMembers.older_member.Goals as goal
+use Rattle.promise_graph.proofs.calls.GraphNodes.older_member.Goals as goal
 
 pub returns : goal.returns
 returns g c w list front back st live are =

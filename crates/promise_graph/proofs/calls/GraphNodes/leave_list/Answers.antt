@@ -2,7 +2,7 @@ use Rattle.promise_nodes.specs.Members.{lists_in, without_member}
 use Rattle.promise_graph.specs.Laws.{nodes_free, same_lists}
 use Rattle.promise_graph.proofs.Frames.{lists_seen}
 use Rattle.promise_graph.proofs.Marked.{nodes_seen}
-use Rattle.promise_graph.proofs.member_calls.GraphHasMembers.leave_list.Goals as goal
+use Rattle.promise_graph.proofs.calls.GraphNodes.leave_list.Goals as goal
 
 pub returns-clause-stands : goal.returns-clause-stands
 returns-clause-stands g c w v st same are =
