@@ -5,7 +5,7 @@ use Rattle.promise_commands.specs.Telling.{Telling}
 use Rattle.kj_model.specs.Calls.{CallWait, Waited, NotThere, held_awaited, wait, wait_held, wait_more, wait_unless, with_awaited}
 use Rattle.kj_model.specs.Apply.{Unknown, WrongKind}
 use Rattle.kj_model.specs.Changes.{silent, unnamed}
-use Rattle.kj_model.specs.World.{World, State, Setting, Held, Promise}
+use Rattle.kj_model.specs.World.{World, State, Setting, Held, Promise, held_at}
 use Rattle.kj_ownership.proofs.Calls.{call_keeps, rests_of}
 use Rattle.kj_ownership.proofs.Reached.{listened_only}
 use Rattle.kj_ownership.proofs.Waits.{held_rests}
