@@ -1,6 +1,7 @@
 //! Scripts that keep their text.
 ghost use Rattle.std.specs.Prelude.{◌≡◌, length, IfOk};
 ghost use Rattle.promise_commands.specs.Script.{body_at};
+ghost use Rattle.promise_script.specs.Scripts.{IsScriptText};
 
 use crate::bodies::{passing, read_action};
 use crate::cuts::text_from;
@@ -33,6 +34,13 @@ impl<'a> Model for Script<'a> {
 }
 
 impl<'a> Script<'a> {
+    /// The octets that it was read from.
+    pub fn text(&self) -> &'a [u8]
+        ensures { IsScriptText result.now self.now }
+    {
+        self.octets
+    }
+
     pub fn limits(&self) -> Option<Limits>
         ensures { result ≡ self.now.limits }
     {
