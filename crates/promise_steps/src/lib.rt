@@ -9,7 +9,9 @@ mod told;
 
 pub use kept::Kept;
 pub use order::Entry;
-pub use print::{print_idle, print_refused, print_waited};
+pub use print::{
+    kind_word, print_idle, print_number, print_refused, print_waited, print_words,
+};
 pub use steps::ScriptSteps;
 pub use told::Told;
 

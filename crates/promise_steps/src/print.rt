@@ -9,8 +9,8 @@ use itoa::Buffer;
 use kj_base::{Bytes, Kind, Name, NoMemory, NodeId, Outcome, StepId};
 use promise_commands::{Refused, Waited};
 
-// A number after a space.
-fn print_number(text: &mut Bytes, n: u64) -> Result<(), NoMemory>
+/// A number after a space.
+pub fn print_number(text: &mut Bytes, n: u64) -> Result<(), NoMemory>
     ensures { OnOk result (text.new ≡ text.old ++ spaced n) }
 {
     let mut buffer = Buffer::new();
@@ -18,8 +18,8 @@ fn print_number(text: &mut Bytes, n: u64) -> Result<(), NoMemory>
     text.extend(buffer.format(n).as_bytes())
 }
 
-// The word of a kind.
-fn kind_word(kind: Kind) -> &'static [u8]
+/// The word of a kind.
+pub fn kind_word(kind: Kind) -> &'static [u8]
     ensures { result.now ≡ kind_text kind }
 {
     match kind {
@@ -30,8 +30,8 @@ fn kind_word(kind: Kind) -> &'static [u8]
     }
 }
 
-// Each word after a space.
-fn print_words(text: &mut Bytes, words: &[u64]) -> Result<(), NoMemory>
+/// Each word after a space.
+pub fn print_words(text: &mut Bytes, words: &[u64]) -> Result<(), NoMemory>
     ensures { OnOk result (text.new ≡ text.old ++ all_spaced words.now) }
 {
     for word in words {
