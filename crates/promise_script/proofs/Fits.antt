@@ -24,25 +24,25 @@ means_fits text (Wait p n) means = means.0
 means_fits text (Step s) means = means.0
 means_fits text (Close x) means = means.0
 
-abbrev AllFit : List Meaning → Type 0
+abbrev pub AllFit : List Meaning → Type 0
 AllFit [] = Unit {0}
 AllFit (m ∷ ms) = MeaningFits m × AllFit ms
 
-mean_fit : (texts : List (List ℕ)) (ms : List Meaning) → MeanAll texts ms → AllFit ms
+pub mean_fit : (texts : List (List ℕ)) (ms : List Meaning) → MeanAll texts ms → AllFit ms
 mean_fit [] [] mean = tt
 mean_fit [] (m ∷ ms) mean = absurd mean
 mean_fit (text ∷ texts) [] mean = absurd mean
 mean_fit (text ∷ texts) (m ∷ ms) mean = (means_fits text m mean.0, mean_fit texts ms mean.1)
 
-front_fits : (xs ys : List Meaning) → AllFit (xs ++ ys) → AllFit xs
+pub front_fits : (xs ys : List Meaning) → AllFit (xs ++ ys) → AllFit xs
 front_fits [] ys fit = tt
 front_fits (x ∷ xs) ys fit = (fit.0, front_fits xs ys fit.1)
 
-behind_fits : (xs ys : List Meaning) → AllFit (xs ++ ys) → AllFit ys
+pub behind_fits : (xs ys : List Meaning) → AllFit (xs ++ ys) → AllFit ys
 behind_fits [] ys fit = fit
 behind_fits (x ∷ xs) ys fit = behind_fits xs ys fit.1
 
-limits_fit : (l : Option Limits) → AllFit (limits_meanings l) → IfSome l LimitsFit
+pub limits_fit : (l : Option Limits) → AllFit (limits_meanings l) → IfSome l LimitsFit
 limits_fit None fit = tt
 limits_fit (Some l) fit = fit.0
 
