@@ -31,13 +31,15 @@ bodies_fit (Stands line ∷ pieces) few fit = bodies_fit pieces few.1 fit.1
 bodies_fit (Bodied step inside ending ∷ pieces) few fit =
     let here = front_fits (Step step ∷ inner_meanings inside ending) (flat_map piece_meanings pieces) fit in
     let rest = behind_fits (Step step ∷ inner_meanings inside ending) (flat_map piece_meanings pieces) fit in
-    let last = behind_fits (map inside_meaning inside) (Close ending ∷ []) here.1 in
-    (record {
-      step = here.0;
-      few = few.0;
-      commands = commands_fit inside (front_fits (map inside_meaning inside) (Close ending ∷ []) here.1);
-      ending = last.0;
-    }, bodies_fit pieces few.1 rest)
+    let last = behind_fits (map inside_meaning inside) (Close ending ∷ []) here.1 in (
+      record {
+        step = here.0;
+        few = few.0;
+        commands = commands_fit inside (front_fits (map inside_meaning inside) (Close ending ∷ []) here.1);
+        ending = last.0;
+      },
+      bodies_fit pieces few.1 rest,
+    )
 
 lines_fit : (n : ℕ) (pieces : List Piece) → AllFit (flat_map piece_meanings pieces) → AllByRecursion OutsideFits (lines_in n pieces)
 lines_fit n [] fit = tt

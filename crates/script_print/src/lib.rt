@@ -9,7 +9,6 @@ mod script;
 mod tests;
 mod words;
 
-pub use commands::print_command;
 pub use laws::read_again;
-pub use lines::{print_body, print_line};
+pub use lines::{print_body, print_limits, print_line};
 pub use script::print;
