@@ -4,3 +4,4 @@ pub mod Unbroken
 pub mod Printable
 pub mod Again
 pub mod Kept
+pub mod Sizes

@@ -52,3 +52,9 @@ script_is script =
     let bodies : List Meaning = flat_map body_meanings script.bodies in
     printed_more (limits ++ bodies) (map outside_meaning script.lines)
     ∙ ap (λ (ys : List ℕ). ys ++ printed_lines (map outside_meaning script.lines)) (printed_more limits bodies)
+
+-- where no line is left
+pub none_left : (script : Script) (text : List ℕ) (left : List NumberedLine)
+    → printed script ≡ text ++ printed_lines (map outside_meaning left) → left ≡ [] → printed script ≡ text
+none_left script text left all none =
+    all ∙ ap (λ (xs : List NumberedLine). text ++ printed_lines (map outside_meaning xs)) none ∙ append-nil text

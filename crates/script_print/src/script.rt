@@ -1,8 +1,8 @@
 //! Printing of scripts.
-ghost use Rattle.std.specs.Prelude.{◌≡◌, List, IfOk, Result};
+ghost use Rattle.std.specs.Prelude.{◌≡◌, ◌+◌, ◌≤◌, List, ℕ, IfOk, Result, length};
 ghost use Rattle.promise_commands.specs.Script.{Script};
 ghost use Rattle.promise_script.specs.declared.reader.ReadRefused.{ReadRefused};
-ghost use Rattle.promise_script.specs.Scripts.{IsReadAs};
+ghost use Rattle.promise_script.specs.Scripts.{IsReadAs, IsScriptText};
 ghost use Rattle.script_print.specs.Again.{IsReadAgain};
 ghost use Rattle.script_print.specs.Printed.{printed};
 
@@ -12,11 +12,13 @@ use promise_script::Script;
 use std::alloc::Global;
 
 /// The text of a script, without remarks: its limits, if it says some, its bodies, and its lines outside
-/// them. It takes no more octets than the text that was read, but for the end of the last line.
+/// them. Its room is made at once.
 pub fn print(alloc: Global, script: &Script) -> Result<Bytes, NoMemory>
     ensures text { IfOk result (λ text. text ≡ printed script.now) }
     ensures again { IfOk result (λ text. (again : Result Script ReadRefused)
         → IsReadAs text again → IsReadAgain script.now again) }
+    ensures short { IfOk result (λ text. (source : List ℕ)
+        → IsScriptText source script.now → length text ≤ length source + 1) }
 {
     let mut text = Bytes::with_capacity(alloc, script.text().len() + 1)?;
     print_limits(&mut text, script.limits())?;
