@@ -1,10 +1,8 @@
 -- What was printed is read again as the same script but for the numbers of lines.
-use Rattle.std.proofs.Common.{◌≡◌, ℕ, ◌<◌, ◌≤◌, ◌+◌, ◌^◌, List, [], ◌∷◌, ◌++◌, Option, None, Some, Result, Ok, Err, IfSome, append_assoc, refl, sym, ap, ◌∙◌, subst, map, length}
+use Rattle.std.proofs.Common.{◌≡◌, ℕ, ◌≤◌, ◌+◌, List, [], ◌∷◌, ◌++◌, Option, None, Some, Result, Ok, Err, IfSome, append_assoc, refl, sym, ap, ◌∙◌, subst, map, length}
 use Rattle.std.specs.Prelude.{flat_map}
 use Rattle.std.specs.List.{AllByRecursion}
-use Rattle.kj_base.specs.declared.numbers.StepId.{StepId}
 use Rattle.kj_base.specs.declared.numbers.Limits.{Limits}
-use Rattle.kj_base.specs.declared.endings.Ending.{Ending}
 use Rattle.promise_commands.specs.declared.action.TheConstants.{MAX_COMMANDS}
 use Rattle.promise_commands.specs.declared.command.Command.{Command}
 use Rattle.promise_commands.specs.declared.script.Line.{Line}
@@ -12,14 +10,14 @@ use Rattle.promise_commands.specs.declared.script.Line.TheVariants.{Do as DoLine
 use Rattle.promise_commands.specs.declared.script.NumberedLine.{NumberedLine}
 use Rattle.promise_commands.specs.Script.{Body, Script}
 use Rattle.promise_script.specs.declared.meaning.Meaning.{Meaning}
-use Rattle.promise_script.specs.declared.meaning.Meaning.TheVariants.{Nothing, Limits as LimitsLine, Do, Turn, Run, Wait, Step, Close}
+use Rattle.promise_script.specs.declared.meaning.Meaning.TheVariants.{Do, Step, Close}
 use Rattle.promise_script.specs.declared.reader.ReadRefused.{ReadRefused}
 use Rattle.promise_script.specs.declared.reader.ReadRefused.TheVariants.{Bad, NotBuilt, NoMemory}
-use Rattle.promise_script.specs.ScriptText.{CommandFits, EndingFits, LimitsFit, MeaningFits, lines_of}
-use Rattle.promise_script.specs.Scripts.{Piece, Stands, Bodied, line_meaning, inside_meaning, piece_meanings, limits_meanings, commands_of, piece_bodies, lines_in, PiecesFit, MeanAll, IsScript, IsScriptText, IsReadAs}
+use Rattle.promise_script.specs.ScriptText.{CommandFits, LimitsFit, MeaningFits, lines_of}
+use Rattle.promise_script.specs.Scripts.{Piece, Stands, Bodied, line_meaning, inside_meaning, piece_meanings, limits_meanings, commands_of, piece_bodies, lines_in, PiecesFit, MeanAll, IsScriptText, IsReadAs}
 use Rattle.promise_script.proofs.Faults.{same_script, script_not_bad, script_built}
 use Rattle.script_print.specs.Again.{BodyFits, OutsideFits, IsPrintable, IsSame, IsReadAgain, line_in}
-use Rattle.script_print.specs.Printed.{body_meanings, outside_meaning, printed, printed_lines, script_meanings}
+use Rattle.script_print.specs.Printed.{body_meanings, outside_meaning, printed, script_meanings}
 use Rattle.script_print.proofs.Printable.{IsSaid, printed_mean}
 
 -- ---- each line can be said

@@ -1,10 +1,7 @@
 -- A script that is read can be printed; scripts that are the same but for the numbers of lines have one text.
-use Rattle.std.proofs.Common.{◌≡◌, ℕ, ◌<◌, ◌≤◌, ◌+◌, ◌^◌, List, [], ◌∷◌, ◌++◌, Option, None, Some, refl, sym, ap, ◌∙◌, subst, append_assoc, map, length, replicate}
+use Rattle.std.proofs.Common.{◌≡◌, ℕ, ◌+◌, List, [], ◌∷◌, ◌++◌, Option, None, Some, refl, sym, ap, ◌∙◌, subst, map, length, replicate}
 use Rattle.std.specs.Prelude.{flat_map}
 use Rattle.std.specs.List.{AllByRecursion}
-use Rattle.kj_base.specs.declared.numbers.StepId.{StepId}
-use Rattle.kj_base.specs.declared.numbers.Limits.{Limits}
-use Rattle.kj_base.specs.declared.endings.Ending.{Ending}
 use Rattle.promise_commands.specs.declared.command.Command.{Command}
 use Rattle.promise_commands.specs.declared.script.Line.{Line}
 use Rattle.promise_commands.specs.declared.script.NumberedLine.{NumberedLine}

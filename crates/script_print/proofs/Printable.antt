@@ -1,7 +1,7 @@
 -- The lines that are printed mean what they were printed for.
-use Rattle.std.proofs.Common.{◌≡◌, ℕ, ◌<◌, ◌≤◌, ◌+◌, ◌^◌, true, List, [], ◌∷◌, ◌++◌, arith, Option, None, Some, refl, sym, ap, ◌∙◌, subst, map}
+use Rattle.std.proofs.Common.{◌≡◌, ℕ, ◌<◌, ◌^◌, true, List, [], ◌∷◌, arith, refl, sym, ap, ◌∙◌, subst, map}
 use Rattle.std.specs.Prelude.{decimal}
-use Rattle.std.specs.List.{All as EachOf, AllByRecursion}
+use Rattle.std.specs.List.{AllByRecursion}
 use Rattle.std.proofs.lemmas.List.{append_assoc}
 use Rattle.std.proofs.lemmas.List.Elements.{recursion_from_All}
 use Rattle.kj_base.specs.declared.numbers.Name.{Name}

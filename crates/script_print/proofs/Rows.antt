@@ -1,18 +1,16 @@
 -- Lines, printed one behind another.
-use Rattle.std.proofs.Common.{◌≡◌, ℕ, ◌<◌, ◌+◌, List, [], ◌∷◌, ◌++◌, sym, ap, ◌∙◌, map, length, take, get_or}
+use Rattle.std.proofs.Common.{◌≡◌, ℕ, ◌<◌, ◌+◌, List, [], ◌∷◌, ◌++◌, sym, ap, ◌∙◌, map, length, take}
 use Rattle.std.specs.Prelude.{flat_map}
 use Rattle.std.proofs.lemmas.List.{append_assoc, append-nil, take_more}
 use Rattle.std.proofs.lemmas.Grind.{flat_map-append}
 use Rattle.kj_base.specs.declared.numbers.StepId.{StepId}
-use Rattle.kj_base.specs.declared.numbers.Limits.{Limits}
 use Rattle.promise_commands.specs.declared.action.Action.{Action}
-use Rattle.promise_commands.specs.declared.command.Command.{Command}
 use Rattle.promise_commands.specs.declared.script.NumberedLine.{NumberedLine}
 use Rattle.promise_commands.specs.Script.{Body, Script, body_at, no_body}
 use Rattle.promise_script.specs.declared.meaning.Meaning.{Meaning}
 use Rattle.promise_script.specs.declared.meaning.Meaning.TheVariants.{Do, Step, Close}
 use Rattle.promise_script.specs.Scripts.{limits_meanings}
-use Rattle.script_print.specs.Printed.{action_meanings, body_meanings, outside_meaning, printed, printed_line, printed_lines, script_meanings}
+use Rattle.script_print.specs.Printed.{action_meanings, body_meanings, outside_meaning, printed, printed_line, printed_lines}
 
 pub printed_more : (xs ys : List Meaning) → printed_lines (xs ++ ys) ≡ printed_lines xs ++ printed_lines ys
 printed_more xs ys = flat_map-append printed_line xs ys

@@ -1,5 +1,5 @@
 -- What is printed is no longer than what was read, but for the end of the last line.
-use Rattle.std.proofs.Common.{◌≡◌, ℕ, ◌≤◌, ◌+◌, ◌==◌, List, [], ◌∷◌, ◌++◌, Option, None, Some, Bool, true, false, cond, refl, sym, ap, ◌∙◌, subst, append_assoc, length-append, arith, map, length, replicate}
+use Rattle.std.proofs.Common.{◌≡◌, ℕ, ◌≤◌, ◌+◌, ◌==◌, List, [], ◌∷◌, ◌++◌, Option, None, Some, Bool, true, false, cond, refl, sym, ap, ◌∙◌, length-append, arith, map, length, replicate}
 use Rattle.std.specs.Prelude.{flat_map}
 use Rattle.std.specs.List.{onto_first}
 use Rattle.std.proofs.lemmas.Grind.{flat_map-append}
@@ -14,7 +14,7 @@ use Rattle.promise_commands.specs.declared.script.NumberedLine.{NumberedLine}
 use Rattle.promise_commands.specs.Script.{Body, Script}
 use Rattle.promise_script.specs.declared.meaning.Meaning.{Meaning}
 use Rattle.promise_script.specs.declared.meaning.Meaning.TheVariants.{Nothing, Limits as LimitsLine, Do, Turn, Run, Wait, Step, Close}
-use Rattle.promise_script.specs.ScriptText.{Means, Spells, lines_of, meaning_words, words_of}
+use Rattle.promise_script.specs.ScriptText.{Means, Spells, lines_of, meaning_words}
 use Rattle.promise_script.specs.Scripts.{Piece, Remark, Stands, Bodied, line_meaning, inside_meaning, body_meanings as inner_meanings, piece_meanings, limits_meanings, commands_of, piece_bodies, lines_in, body_with, MeanAll, IsScriptText}
 use Rattle.script_print.specs.Printed.{body_meanings, joined, outside_meaning, printed, printed_line, printed_lines}
 use Rattle.script_print.proofs.Rows.{printed_more, script_is}
@@ -31,13 +31,13 @@ onto_ended : (c : ℕ) (cs : List ℕ) (lines : List (List ℕ)) → length (all
 onto_ended c cs [] h = omega arith
 onto_ended c cs (line ∷ lines) h = omega (arith, h)
 
+line_ended : (c : ℕ) (cs : List ℕ) (lines : List (List ℕ)) (b : Bool) → length (all_ended lines) ≤ length cs + 1 → length (all_ended (cond b ([] ∷ lines) (onto_first c lines))) ≤ length (c ∷ cs) + 1
+line_ended c cs lines true h = omega (arith, h)
+line_ended c cs lines false h = onto_ended c cs lines h
+
 lines_ended : (text : List ℕ) → length (all_ended (lines_of text)) ≤ length text + 1
 lines_ended [] = omega arith
-lines_ended (c ∷ cs) = by (c == 10)
-  where
-    by : (b : Bool) → length (all_ended (cond b ([] ∷ lines_of cs) (onto_first c (lines_of cs)))) ≤ length (c ∷ cs) + 1
-    by true = omega (arith, lines_ended cs)
-    by false = onto_ended c cs (lines_of cs) (lines_ended cs)
+lines_ended (c ∷ cs) = line_ended c cs (lines_of cs) (c == 10) (lines_ended cs)
 
 -- ---- lines that mean something
 

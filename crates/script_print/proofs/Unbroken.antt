@@ -1,19 +1,17 @@
 -- Words without spaces and ends of lines: what is joined of them is cut into them again.
-use Rattle.std.proofs.Common.{◌≡◌, ℕ, ◌<◌, ◌≤◌, ◌^◌, ◌==◌, ◌&&◌, List, [], ◌∷◌, ◌++◌, Option, None, Some, Bool, true, false, cond, nat_lt, refl, sym, ap, ◌∙◌, arith, map}
-use Rattle.std.specs.Prelude.{codes, decimal}
-use Rattle.std.specs.List.{slice_split, onto_first, list_all}
+use Rattle.std.proofs.Common.{◌≡◌, ℕ, ◌<◌, ◌^◌, ◌==◌, ◌&&◌, List, [], ◌∷◌, ◌++◌, Option, None, Some, Bool, true, false, cond, nat_lt, refl, ap, ◌∙◌, arith}
+use Rattle.std.specs.Prelude.{decimal}
+use Rattle.std.specs.List.{onto_first, list_all}
 use Rattle.std.specs.Str.Parse.{AllDigits}
 use Rattle.std.proofs.lemmas.Bool.Decides.{nat_tests}
 use Rattle.std.proofs.lemmas.Fmt.{decimal_is_IsNumeral}
 use Rattle.std.proofs.lemmas.List.Folds.{list_all-append}
 use Rattle.std.proofs.lemmas.Str.Parse.{digit_from_value}
 use Rattle.kj_base.specs.declared.numbers.StepId.{StepId}
-use Rattle.kj_base.specs.declared.numbers.Name.{Name}
-use Rattle.kj_base.specs.declared.outcomes.Exception.{Exception}
 use Rattle.kj_base.specs.declared.outcomes.Kind.{Kind}
 use Rattle.kj_base.specs.declared.outcomes.Kind.TheVariants.{Failed, Overloaded, Disconnected, Unimplemented}
 use Rattle.kj_model.specs.Text.{kind_text}
-use Rattle.promise_script.specs.ScriptText.{exception_words, name_word, step_word, StepFits, NameFits, words_of, lines_of}
+use Rattle.promise_script.specs.ScriptText.{step_word, StepFits, words_of, lines_of}
 use Rattle.script_print.specs.Printed.{joined}
 
 -- each octet is above this

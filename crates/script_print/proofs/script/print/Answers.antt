@@ -2,7 +2,6 @@
 use Rattle.std.proofs.Common.{rules, ◌≡◌, ℕ, ◌≤◌, ◌+◌, [], List, length, subst, sym}
 use Rattle.promise_commands.specs.Script.{Script}
 use Rattle.promise_script.specs.Scripts.{IsReadAs}
-use Rattle.script_print.specs.Printed.{printed}
 use Rattle.script_print.proofs.Again.{read_again}
 use Rattle.script_print.proofs.Kept.{printable}
 use Rattle.script_print.proofs.Rows.{none_left}

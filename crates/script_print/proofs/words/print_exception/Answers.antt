@@ -1,5 +1,5 @@
 -- The first word, and the numbers, the kind and the code behind it.
-use Rattle.std.proofs.Common.{rules, ◌≡◌, ◌∙◌, List, ℕ, [], ◌∷◌, ◌++◌, ap, map, append_assoc}
+use Rattle.std.proofs.Common.{rules, ◌≡◌, ◌∙◌, List, ℕ, [], ◌∷◌, ◌++◌, ap, map}
 use Rattle.std.specs.Prelude.{decimal}
 use Rattle.std.proofs.lemmas.Result.{on_ok_weaker}
 use Rattle.kj_model.specs.Text.{all_spaced, kind_text, spaced}
