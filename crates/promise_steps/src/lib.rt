@@ -9,9 +9,7 @@ mod told;
 
 pub use kept::Kept;
 pub use order::Entry;
-pub use print::{
-    kind_word, print_idle, print_number, print_refused, print_waited, print_words,
-};
+pub use print::{kind_word, print_idle, print_number, print_refused, print_waited, print_words};
 pub use steps::ScriptSteps;
 pub use told::Told;
 

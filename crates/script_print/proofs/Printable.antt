@@ -47,8 +47,20 @@ command (Broken n e) fit = (refl, (name n fit.0, exception e fit.1))
 command (Later n) fit = (refl, (name n fit, tt))
 command (Last n) fit = (refl, (name n fit, tt))
 command (Pair n cell) fit = (refl, (name n fit.0, (name cell fit.1, tt)))
-command (Then n source value error) fit = (refl, (name n fit.0, (name source fit.1, (step_unbroken value fit.2, (step_unbroken error fit.3, tt)))))
-command (Chain n source value error) fit = (refl, (name n fit.0, (name source fit.1, (step_unbroken value fit.2, (step_unbroken error fit.3, tt)))))
+command (Then n source value error) fit = (
+  refl,
+  (
+    name n fit.0,
+    (name source fit.1, (step_unbroken value fit.2, (step_unbroken error fit.3, tt))),
+  ),
+)
+command (Chain n source value error) fit = (
+  refl,
+  (
+    name n fit.0,
+    (name source fit.1, (step_unbroken value fit.2, (step_unbroken error fit.3, tt))),
+  ),
+)
 command (Eager n source) fit = (refl, (name n fit.0, (name source fit.1, tt)))
 command (Fork hub source) fit = (refl, (name hub fit.0, (name source fit.1, tt)))
 command (Branch n hub) fit = (refl, (name n fit.0, (name hub fit.1, tt)))
@@ -85,11 +97,18 @@ IsSaid (Close e) = MeaningFits (Close e)
 
 said_unbroken : (m : Meaning) → IsSaid m → AreUnbroken (meaning_words m)
 said_unbroken Nothing said = absurd said
-said_unbroken (LimitsLine limits) fit = (refl, (small_unbroken limits.slots (omega (arith, fit.1)), (small_unbroken limits.names (omega (arith, fit.4)), tt)))
+said_unbroken (LimitsLine limits) fit = (
+  refl,
+  (
+    small_unbroken limits.slots (omega (arith, fit.1)),
+    (small_unbroken limits.names (omega (arith, fit.4)), tt),
+  ),
+)
 said_unbroken (Do c) fit = command c fit
 said_unbroken Turn fit = (refl, tt)
 said_unbroken (Run turns) fit = (refl, (small_unbroken turns (omega (arith, fit)), tt))
-said_unbroken (Wait n turns) fit = (refl, (name n fit.0, (small_unbroken turns (omega (arith, fit.1)), tt)))
+said_unbroken (Wait n turns) fit =
+    (refl, (name n fit.0, (small_unbroken turns (omega (arith, fit.1)), tt)))
 said_unbroken (Step step) fit = (refl, (small_unbroken step.0 fit, tt))
 said_unbroken (Close e) fit = last e fit
 
@@ -98,19 +117,27 @@ said_unbroken (Close e) fit = last e fit
 -- the printed words are those of the meaning
 said_means : (m : Meaning) → IsSaid m → Means (joined (meaning_words m)) m
 said_means Nothing said = absurd said
-said_means (LimitsLine limits) fit = (fit, words_again (meaning_words (LimitsLine limits)) (said_unbroken (LimitsLine limits) fit))
+said_means (LimitsLine limits) fit =
+    (fit, words_again (meaning_words (LimitsLine limits)) (said_unbroken (LimitsLine limits) fit))
 said_means (Do c) fit = (fit, words_again (meaning_words (Do c)) (said_unbroken (Do c) fit))
 said_means Turn fit = (fit, words_again (meaning_words Turn) (said_unbroken Turn fit))
-said_means (Run turns) fit = (fit, words_again (meaning_words (Run turns)) (said_unbroken (Run turns) fit))
-said_means (Wait n turns) fit = (fit, words_again (meaning_words (Wait n turns)) (said_unbroken (Wait n turns) fit))
-said_means (Step step) fit = (fit, words_again (meaning_words (Step step)) (said_unbroken (Step step) fit))
-said_means (Close e) fit = (fit, words_again (meaning_words (Close e)) (said_unbroken (Close e) fit))
+said_means (Run turns) fit =
+    (fit, words_again (meaning_words (Run turns)) (said_unbroken (Run turns) fit))
+said_means (Wait n turns) fit =
+    (fit, words_again (meaning_words (Wait n turns)) (said_unbroken (Wait n turns) fit))
+said_means (Step step) fit =
+    (fit, words_again (meaning_words (Step step)) (said_unbroken (Step step) fit))
+said_means (Close e) fit =
+    (fit, words_again (meaning_words (Close e)) (said_unbroken (Close e) fit))
 
 -- the lines of what is printed
-pub printed_mean : (ms : List Meaning) → AllByRecursion IsSaid ms → MeanAll (lines_of (printed_lines ms)) ms
+pub printed_mean : (ms : List Meaning) → AllByRecursion IsSaid ms
+    → MeanAll (lines_of (printed_lines ms)) ms
 printed_mean [] said = tt
 printed_mean (m ∷ ms) said =
     let words : List (List ℕ) = meaning_words m in
     let cut : lines_of (printed_lines (m ∷ ms)) ≡ joined words ∷ lines_of (printed_lines ms) =
-    ap lines_of (append_assoc (joined words) (10 ∷ []) (printed_lines ms)) ∙ line_again words (printed_lines ms) (said_unbroken m said.0) in
-    subst (λ (texts : List (List ℕ)). MeanAll texts (m ∷ ms)) (sym cut) (said_means m said.0, printed_mean ms said.1)
+    ap lines_of (append_assoc (joined words) (10 ∷ []) (printed_lines ms))
+    ∙ line_again words (printed_lines ms) (said_unbroken m said.0) in
+    subst (λ (texts : List (List ℕ)). MeanAll texts (m ∷ ms)) (sym cut)
+    (said_means m said.0, printed_mean ms said.1)

@@ -25,7 +25,8 @@ pub numbers_behind : (ns : List ℕ) → all_spaced ns ≡ behind (map decimal n
 numbers_behind ns = sym (flat_map-map after_space decimal ns)
 
 -- a line of a word and words behind it
-pub line_is : (old w b : List ℕ) (ws : List (List ℕ)) → b ≡ behind ws → ((old ++ w) ++ b) ++ (10 ∷ []) ≡ old ++ words_line (w ∷ ws)
+pub line_is : (old w b : List ℕ) (ws : List (List ℕ)) → b ≡ behind ws
+    → ((old ++ w) ++ b) ++ (10 ∷ []) ≡ old ++ words_line (w ∷ ws)
 line_is old w b ws same =
     ap (λ (ys : List ℕ). ys ++ (10 ∷ [])) (append_assoc old w b)
     ∙ append_assoc old (w ++ b) (10 ∷ [])
@@ -41,7 +42,8 @@ longer_line_is old w a b vs ws first second =
     ((λ i. first i ++ second i) ∙ sym (flat_map-append after_space vs ws))
 
 -- a space, a kind and a code, one behind another
-pub kind_and_code : (old kind code : List ℕ) → ((old ++ (32 ∷ [])) ++ kind) ++ code ≡ old ++ (32 ∷ (kind ++ code))
+pub kind_and_code : (old kind code : List ℕ) → ((old ++ (32 ∷ [])) ++ kind) ++ code
+    ≡ old ++ (32 ∷ (kind ++ code))
 kind_and_code old kind code =
     append_assoc (old ++ (32 ∷ [])) kind code
     ∙ append_assoc old (32 ∷ []) (kind ++ code)
@@ -49,5 +51,6 @@ kind_and_code old kind code =
 pub code_behind : (code : ℕ) → spaced code ≡ behind (decimal code ∷ [])
 code_behind code = sym (append-nil (spaced code))
 
-pub names_behind : (names : List Name) → flat_map (λ (n : Name). spaced n.0) names ≡ behind (map name_word names)
+pub names_behind : (names : List Name) → flat_map (λ (n : Name). spaced n.0) names
+    ≡ behind (map name_word names)
 names_behind names = sym (flat_map-map after_space name_word names)

@@ -86,12 +86,15 @@ first_word : (w rest : List ℕ) → unbroken w ≡ true → words_of (w ++ (32 
 first_word [] rest all = refl
 first_word (c ∷ cs) rest all =
     let here = two_tests (nat_lt 32 c) (unbroken cs) all in
-    ap (parted c (words_of (cs ++ (32 ∷ rest)))) (no_space c here.0) ∙ ap (onto_first c) (first_word cs rest here.1)
+    ap (parted c (words_of (cs ++ (32 ∷ rest)))) (no_space c here.0)
+    ∙ ap (onto_first c) (first_word cs rest here.1)
 
 -- what is joined of words is cut into them
-all_words : (w : List ℕ) (ws : List (List ℕ)) → unbroken w ≡ true → AllUnbroken ws → words_of (joined (w ∷ ws)) ≡ w ∷ ws
+all_words : (w : List ℕ) (ws : List (List ℕ)) → unbroken w ≡ true → AllUnbroken ws
+    → words_of (joined (w ∷ ws)) ≡ w ∷ ws
 all_words w [] here all = one_word w here
-all_words w (x ∷ xs) here all = first_word w (joined (x ∷ xs)) here ∙ ap (λ (ws : List (List ℕ)). w ∷ ws) (all_words x xs all.0 all.1)
+all_words w (x ∷ xs) here all = first_word w (joined (x ∷ xs)) here
+    ∙ ap (λ (ws : List (List ℕ)). w ∷ ws) (all_words x xs all.0 all.1)
 
 pub words_again : (ws : List (List ℕ)) → AreUnbroken ws → words_of (joined ws) ≡ ws
 words_again [] are = absurd are
@@ -111,7 +114,8 @@ above_lower (c ∷ cs) all =
     λ i. first i && rest i
 
 -- no end of a line stands in it
-joined_above : (w : List ℕ) (ws : List (List ℕ)) → unbroken w ≡ true → AllUnbroken ws → above 31 (joined (w ∷ ws)) ≡ true
+joined_above : (w : List ℕ) (ws : List (List ℕ)) → unbroken w ≡ true → AllUnbroken ws
+    → above 31 (joined (w ∷ ws)) ≡ true
 joined_above w [] here all = above_lower w here
 joined_above w (x ∷ xs) here all =
     let first = above_lower w here in
@@ -125,9 +129,11 @@ first_line : (w rest : List ℕ) → above 31 w ≡ true → lines_of (w ++ (10 
 first_line [] rest all = refl
 first_line (c ∷ cs) rest all =
     let here = two_tests (nat_lt 31 c) (above 31 cs) all in
-    ap (parted c (lines_of (cs ++ (10 ∷ rest)))) (no_end c here.0) ∙ ap (onto_first c) (first_line cs rest here.1)
+    ap (parted c (lines_of (cs ++ (10 ∷ rest)))) (no_end c here.0)
+    ∙ ap (onto_first c) (first_line cs rest here.1)
 
 -- joined words, behind which a line ends, are the first line
-pub line_again : (ws : List (List ℕ)) (rest : List ℕ) → AreUnbroken ws → lines_of (joined ws ++ (10 ∷ rest)) ≡ joined ws ∷ lines_of rest
+pub line_again : (ws : List (List ℕ)) (rest : List ℕ) → AreUnbroken ws
+    → lines_of (joined ws ++ (10 ∷ rest)) ≡ joined ws ∷ lines_of rest
 line_again [] rest are = absurd are
 line_again (w ∷ ws) rest are = first_line (joined (w ∷ ws)) rest (joined_above w ws are.0 are.1)

@@ -33,9 +33,12 @@ body_meanings body = action_meanings body.step body.action
 abbrev pub outside_meaning : NumberedLine → Meaning
 outside_meaning numbered = line_meaning numbered.line
 
--- what the lines of a script mean: the limits, if they are said, the bodies, and the lines outside them
+-- what the lines of a script mean: the limits, if they are said, the bodies, and the lines outside
+-- them
 abbrev pub script_meanings : Script → List Meaning
-script_meanings script = limits_meanings script.limits ++ flat_map body_meanings script.bodies ++ map outside_meaning script.lines
+script_meanings script =
+    limits_meanings script.limits ++ flat_map body_meanings script.bodies
+    ++ map outside_meaning script.lines
 
 -- the lines that mean these
 abbrev pub printed_lines : List Meaning → List ℕ

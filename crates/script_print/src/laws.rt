@@ -7,8 +7,8 @@ ghost use Rattle.script_print.specs.Again.{IsPrintable, IsReadAgain, IsSame};
 ghost use Rattle.script_print.specs.Printed.{printed};
 
 /// A script that is read can be printed, and what is printed is read as the same script but for the
-/// numbers of its lines. Scripts that are the same but for these have one text. It is no longer than
-/// a text that was read, but for the end of the last line.
+/// numbers of its lines. Scripts that are the same but for these have one text. It is no longer
+/// than a text that was read, but for the end of the last line.
 pub fn read_again()
     ensures printable { (text : List ℕ) (script : Script)
         → IsScriptText text script → IsPrintable script }

@@ -1,5 +1,5 @@
-//! The lines of a body, and those outside bodies. Where a call answers `Err`, a part of its text may
-//! stand there.
+//! The lines of a body, and those outside bodies. Where a call answers `Err`, a part of its text
+//! may stand there.
 ghost use Rattle.std.specs.Prelude.{◌≡◌, ◌++◌, OnOk};
 ghost use Rattle.promise_script.specs.declared.meaning.Meaning.TheVariants.{Close};
 ghost use Rattle.promise_script.specs.Scripts.{limits_meanings, line_meaning};

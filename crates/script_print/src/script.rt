@@ -11,8 +11,8 @@ use kj_base::{Bytes, NoMemory};
 use promise_script::Script;
 use std::alloc::Global;
 
-/// The text of a script, without remarks: its limits, if it says some, its bodies, and its lines outside
-/// them. Its room is made at once.
+/// The text of a script, without remarks: its limits, if it says some, its bodies, and its lines
+/// outside them. Its room is made at once.
 pub fn print(alloc: Global, script: &Script) -> Result<Bytes, NoMemory>
     ensures text { IfOk result (λ text. text ≡ printed script.now) }
     ensures again { IfOk result (λ text. (again : Result Script ReadRefused)

@@ -15,11 +15,15 @@ returns c =
     let last : List ℕ = printed_line (Close c.args.action.now.ending) in
     let items : List Command = c.as_slice-command-items.result.now in
     let whole : take c.loop-command.command-index items ≡ items = grind (arith, common_steps) in
-    let all : take c.loop-command.command-index items ≡ commands = whole ∙ c.as_slice-command-items.ensures.commands in
+    let all : take c.loop-command.command-index items ≡ commands = whole
+    ∙ c.as_slice-command-items.ensures.commands in
     let first : c.print_numbers.new.text ≡ c.args.text.now ++ printed_line (Step c.args.step) =
-    c.in_ok-print_numbers.ensures ∙ ap (λ (n : ℕ). c.args.text.now ++ words_line (codes "step" ∷ decimal n ∷ [])) c.from.ensures in
+    c.in_ok-print_numbers.ensures
+    ∙ ap (λ (n : ℕ). c.args.text.now ++ words_line (codes "step" ∷ decimal n ∷ []))
+    c.from.ensures in
     on_ok_weaker c.print_ending.result
     (λ (e : c.print_ending.new.text ≡ c.loop-command.text ++ last). e
-    ∙ ap (λ (ys : List ℕ). ys ++ last) (c.loop-command.invariant ∙ (λ i. first i ++ printed_lines (map Do (all i))))
+    ∙ ap (λ (ys : List ℕ). ys ++ last)
+    (c.loop-command.invariant ∙ (λ i. first i ++ printed_lines (map Do (all i))))
     ∙ body_is c.args.text.now c.args.step c.args.action.now)
     c.print_ending.ensures

@@ -5,4 +5,5 @@ use Rattle.script_print.specs.Printed.{printed_lines}
 use Rattle.script_print.proofs.lines.print_body.Given as goal
 
 abbrev pub invariant-loop-command : goal.invariant-loop-command
-invariant-loop-command l = l.text ≡ l.initial.text ++ printed_lines (map Do (take l.command-index l.command-items))
+invariant-loop-command l =
+    l.text ≡ l.initial.text ++ printed_lines (map Do (take l.command-index l.command-items))

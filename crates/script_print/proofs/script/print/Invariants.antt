@@ -7,7 +7,8 @@ use Rattle.script_print.proofs.script.print.Given as goal
 
 abbrev pub invariant-loop-which : goal.invariant-loop-which
 invariant-loop-which l =
-    l.text ≡ printed_lines (limits_meanings l.fn.script.limits) ++ printed_lines (flat_map body_meanings (take l.which l.fn.script.bodies))
+    l.text ≡ printed_lines (limits_meanings l.fn.script.limits) ++ printed_lines
+    (flat_map body_meanings (take l.which l.fn.script.bodies))
 
 abbrev pub invariant-loop-left : goal.invariant-loop-left
 invariant-loop-left l = printed l.fn.script ≡ l.text ++ printed_lines (map outside_meaning l.left)

@@ -17,6 +17,8 @@ returns c =
     let behind_all : List Name → List ℕ = λ (xs : List Name). behind (map name_word xs) in
     on_ok_weaker c.push.result
     (λ (e : c.push.new.self ≡ c.loop-name.text ++ (10 ∷ [])). e
-    ∙ ap (λ (ys : List ℕ). ys ++ (10 ∷ [])) (c.loop-name.invariant ∙ (λ i. c.in_ok-print_start.ensures i ++ behind_all (all i)))
-    ∙ longer_line_is c.args.text.now c.args.verb.now (all_spaced ns) (behind_all names) (map decimal ns) (map name_word names) (numbers_behind ns) refl)
+    ∙ ap (λ (ys : List ℕ). ys ++ (10 ∷ []))
+    (c.loop-name.invariant ∙ (λ i. c.in_ok-print_start.ensures i ++ behind_all (all i)))
+    ∙ longer_line_is c.args.text.now c.args.verb.now (all_spaced ns) (behind_all names)
+    (map decimal ns) (map name_word names) (numbers_behind ns) refl)
     c.push.ensures.ok

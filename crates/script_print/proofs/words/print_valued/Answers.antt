@@ -12,6 +12,9 @@ returns c =
     let ws : List ℕ = c.args.words.now in
     on_ok_weaker c.push.result
     (λ (e : c.push.new.self ≡ c.print_words.new.text ++ (10 ∷ [])). e
-    ∙ ap (λ (ys : List ℕ). ys ++ (10 ∷ [])) (c.in_ok-print_words.ensures ∙ ap (λ (ys : List ℕ). ys ++ all_spaced ws) c.in_ok-print_start.ensures)
-    ∙ longer_line_is c.args.text.now c.args.verb.now (all_spaced ns) (all_spaced ws) (map decimal ns) (map decimal ws) (numbers_behind ns) (numbers_behind ws))
+    ∙ ap (λ (ys : List ℕ). ys ++ (10 ∷ []))
+    (c.in_ok-print_words.ensures
+    ∙ ap (λ (ys : List ℕ). ys ++ all_spaced ws) c.in_ok-print_start.ensures)
+    ∙ longer_line_is c.args.text.now c.args.verb.now (all_spaced ns) (all_spaced ws)
+    (map decimal ns) (map decimal ws) (numbers_behind ns) (numbers_behind ws))
     c.push.ensures.ok
