@@ -1,5 +1,9 @@
 -- What the moves of a connection over a stream do.
-use Rattle.std.specs.Prelude.{◌≡◌, ℕ, Bool, true, false, ◌==◌, length, drop, Option, None, Result, Ok, Err}
+use Rattle.std.specs.Prelude.{◌≡◌, ℕ, ◌+◌, ◌-◌, ◌^◌, ◌≤◌, min, Bool, true, false, ◌==◌, ◌++◌, length, drop, []}
+use Rattle.std.specs.Prelude.{Option, None, IfSome, Result, Ok, Err}
+use Rattle.http_core.specs.declared.message.Request.{Request}
+use Rattle.http_core.specs.declared.message.Answer.{Answer}
+use Rattle.http_core.specs.Text.{text}
 use Rattle.http_heads.specs.Framing.{persists}
 use Rattle.kj_base.specs.declared.memory.NoMemory.{NoMemory}
 use Rattle.kj_io.specs.Streams.{StreamOctets, ReadsBehind, HasReadCause, Writes, HasWriteCause}
@@ -15,7 +19,17 @@ use Rattle.http_stream.specs.declared.next.ConnectionStep.TheVariants as steps
 use Rattle.http_stream.specs.declared.next.Next.{Next}
 use Rattle.http_stream.specs.declared.next.Next.TheVariants as next
 use Rattle.http_stream.specs.declared.connection.StreamConnection.{StreamConnection}
-use Rattle.http_stream.specs.Stages.{drained_stage, answered_stage, is_drained, unlooked}
+use Rattle.http_stream.specs.Stages.{closes_after, drained_stage, answered_stage, is_drained, unlooked}
+
+-- a connection over this stream that did nothing yet
+pub record Begins {C : Type 0} (stream : C) (c : StreamConnection C) : Type 0 where
+  pub stream_is : c.stream ≡ stream
+  pub stage : c.stage ≡ Reading
+  pub octets : c.octets ≡ []
+  pub made : c.made ≡ []
+  pub sent : c.sent ≡ 0
+  pub answered : c.answered ≡ 0
+  pub abandoned : c.abandoned ≡ false
 
 -- texts that weren't written go first
 abbrev pub write_or : Bool → Wants → Wants
@@ -91,13 +105,25 @@ pub record ReadOnce {C : Type 0} (told : C → Option StreamOctets) (faults paus
   pub paused : answer ≡ got.NotYet → new.stage ≡ old.stage
   pub drained : is_drained new.stage ≡ false
 
--- a text was made for the request that is whole; it says that the connection closes where a drain had begun
-pub record AnsweredOnce {C : Type 0} (drained : Bool) (old new : StreamConnection C) : Type 0 where
+-- the text of this answer was made for the request that is whole; it says that the connection closes where a drain had begun
+pub record AnsweredOnce {C : Type 0} (drained : Bool) (answer : Answer) (old new : StreamConnection C) : Type 0 where
   pub stage : (left : ℕ) → old.stage ≡ Asked left → new.stage ≡ answered_stage (persists old.request.head) drained left
+  pub made : (left : ℕ) → old.stage ≡ Asked left
+      → new.made ≡ old.made ++ text old.request answer (closes_after (persists old.request.head) drained)
+  pub count : (left : ℕ) → old.stage ≡ Asked left → new.answered ≡ min (old.answered + 1) (2 ^ 64 - 1)
   pub stream : new.stream ≡ old.stream
   pub octets : new.octets ≡ old.octets
   pub sent : new.sent ≡ old.sent
   pub abandoned : new.abandoned ≡ old.abandoned
+
+-- a service that tells so answered the request that is whole, and the text of that answer was made
+pub record AnsweredBy {C : Type 0} (told : Option (Request → Answer)) (drained : Bool) (old new : StreamConnection C)
+    : Type 0 where
+  pub answer : Answer
+  pub told_is : IfSome told (λ f. answer ≡ f old.request)
+  pub lowest : 200 ≤ answer.status
+  pub highest : answer.status ≤ 599
+  pub once : AnsweredOnce drained answer old new
 
 -- the texts that weren't written were written once, and the stream answered so
 pub record WroteOnce {C : Type 0} (told : C → Option StreamOctets) (faults pauses : C → ℕ) (answer : Put) (old new : StreamConnection C) : Type 0 where

@@ -1,6 +1,8 @@
 -- What the steps of a connection over a stream do.
 use Rattle.std.specs.Prelude.{◌≡◌, ℕ, Bool, true, false, Option, Result, Ok, ⊤}
 use Rattle.kj_base.specs.declared.memory.NoMemory.{NoMemory}
+use Rattle.http_core.specs.declared.message.Request.{Request}
+use Rattle.http_core.specs.declared.message.Answer.{Answer}
 use Rattle.kj_io.specs.Streams.{StreamOctets}
 use Rattle.kj_io.specs.declared.stream.Got.{Got}
 use Rattle.kj_io.specs.declared.stream.Got.TheVariants as got
@@ -12,7 +14,7 @@ use Rattle.http_stream.specs.declared.next.ConnectionStep.TheVariants as steps
 use Rattle.http_stream.specs.declared.next.Next.{Next}
 use Rattle.http_stream.specs.declared.next.Next.TheVariants as next
 use Rattle.http_stream.specs.declared.connection.StreamConnection.{StreamConnection}
-use Rattle.http_stream.specs.Moves.{wants_of, drained_of, after_reading, after_writing, Looked, ReadOnce, AnsweredOnce, WroteOnce}
+use Rattle.http_stream.specs.Moves.{wants_of, drained_of, after_reading, after_writing, Looked, ReadOnce, AnsweredBy, WroteOnce}
 
 -- a connection, and whether it waits for its stream
 pub record Held (C : Type 0) : Type 0 where
@@ -54,18 +56,28 @@ pub record ReadStep {C : Type 0} (told : C → Option StreamOctets) (faults paus
   pub waits : new.waits ≡ is_wait following
 
 -- the answering step: one answer, or nothing
-abbrev pub AnswerMove : {C : Type 0} → Bool → Wants → StreamConnection C → StreamConnection C → Next → Type 0
-AnswerMove drained wants.Look old new following = (new ≡ old) × (Ok following ≡ after_reading wants.Look)
-AnswerMove drained wants.Read old new following = (new ≡ old) × (Ok following ≡ after_reading wants.Read)
-AnswerMove drained wants.Answer old new following = AnsweredOnce drained old new × (Ok following ≡ after_reading (wants_of new))
-AnswerMove drained wants.Write old new following = (new ≡ old) × (Ok following ≡ after_reading wants.Write)
-AnswerMove drained wants.End old new following = (new ≡ old) × (Ok following ≡ after_reading wants.End)
-AnswerMove drained wants.Abandoned old new following = (new ≡ old) × (Ok following ≡ after_reading wants.Abandoned)
-AnswerMove drained wants.Memory old new following = ⊥
+abbrev pub AnswerMove : {C : Type 0} → Option (Request → Answer) → Bool → Wants → StreamConnection C → StreamConnection C → Next → Type 0
+AnswerMove told drained wants.Look old new following = (new ≡ old) × (Ok following ≡ after_reading wants.Look)
+AnswerMove told drained wants.Read old new following = (new ≡ old) × (Ok following ≡ after_reading wants.Read)
+AnswerMove told drained wants.Answer old new following = AnsweredBy told drained old new × (Ok following ≡ after_reading (wants_of new))
+AnswerMove told drained wants.Write old new following = (new ≡ old) × (Ok following ≡ after_reading wants.Write)
+AnswerMove told drained wants.End old new following = (new ≡ old) × (Ok following ≡ after_reading wants.End)
+AnswerMove told drained wants.Abandoned old new following = (new ≡ old) × (Ok following ≡ after_reading wants.Abandoned)
+AnswerMove told drained wants.Memory old new following = ⊥
 
-pub record AnswerStep {C : Type 0} (drained : Bool) (old new : Held C) (following : Next) : Type 0 where
-  pub move : AnswerMove drained (wants_of old.connection) old.connection new.connection following
+pub record AnswerStep {C : Type 0} (told : Option (Request → Answer)) (drained : Bool) (old new : Held C) (following : Next) : Type 0 where
+  pub move : AnswerMove told drained (wants_of old.connection) old.connection new.connection following
   pub waits : new.waits ≡ is_wait following
+
+-- the service is called where an answer is wanted, and else stays as it was
+abbrev pub IsAsked : {V : Type 0} → Wants → V → V → Type 0
+IsAsked wants.Look old new = new ≡ old
+IsAsked wants.Read old new = new ≡ old
+IsAsked wants.Answer old new = ⊤
+IsAsked wants.Write old new = new ≡ old
+IsAsked wants.End old new = new ≡ old
+IsAsked wants.Abandoned old new = new ≡ old
+IsAsked wants.Memory old new = new ≡ old
 
 -- a look, where one is wanted
 abbrev pub LooksAt : {C : Type 0} → Wants → StreamConnection C → StreamConnection C → Type 0

@@ -58,17 +58,15 @@ impl<C: Stream> StreamConnection<C> {
     ghost use Rattle.http_core.specs.declared.read.Part.{Part};
     ghost use Rattle.http_stream.specs.declared.stage.Stage.TheVariants as stages;
     ghost use Rattle.http_stream.specs.Standing.{Stands, StandsBetween, ReadsAt, IsAtEnd};
-    ghost use Rattle.http_stream.specs.Moves.{wants_of, drained_of, ReadOnce, AnsweredOnce, WroteOnce};
-    ghost use Rattle.http_stream.specs.Steps.{IsOver, LooksAt, ReadMove, AnswerMove, WriteMove};
+    ghost use Rattle.http_stream.specs.Moves.{Begins, wants_of, drained_of, ReadOnce, AnsweredOnce, WroteOnce};
+    ghost use Rattle.http_stream.specs.Steps.{IsOver, LooksAt, ReadMove, AnswerMove, WriteMove, IsAsked};
     ghost use Rattle.http_stream.specs.Served.{KeepsPromise, EndsAs};
 
     /// A connection over a stream that gave and took nothing yet. Takes no memory.
     pub fn new(alloc: Global, stream: C) -> StreamConnection<C>
         requires fresh { IfSome (C.told stream) (λ o. (o.given ≡ []) × (o.written ≡ [])) }
         ensures stands { (told : Option (Request → Answer)) → Stands C.told C.faults told result }
-        ensures stream { result.stream ≡ stream }
-        ensures stage { result.stage ≡ stages.Reading }
-        ensures abandoned { result.abandoned ≡ false }
+        ensures begins { Begins stream result }
     {
         StreamConnection {
             alloc,
@@ -218,7 +216,8 @@ impl<C: Stream> StreamConnection<C> {
         ensures stands { (told : Option (Request → Answer))
             → IfSome told (λ f. answer.now ≡ f self.old.request)
             → Stands C.told C.faults told self.old → Stands C.told C.faults told self.new }
-        ensures answered { OnOk result (AnsweredOnce drained self.old self.new) }
+        ensures answered { OnOk result (AnsweredOnce drained answer.now self.old self.new) }
+        ensures lacks { OnErr result (self.new ≡ self.old) }
     {
         let Some(left) = asked_left(self.stage) else {
             return Ok(());
@@ -299,7 +298,10 @@ impl<C: Stream> StreamConnection<C> {
         requires { wanted ≡ wants_of self.old }
         ensures stands { Stands C.told C.faults V.told self.old
             → Stands C.told C.faults V.told self.new }
-        ensures moves { IfOk result (λ next. AnswerMove drained wanted self.old self.new next) }
+        ensures moves { IfOk result (λ next. AnswerMove V.told drained wanted self.old self.new
+            next) }
+        ensures lacks { OnErr result (self.new ≡ self.old) }
+        ensures service { IsAsked wanted service.old service.new }
     {
         match wanted {
             Wants::Look => after_reading(Wants::Look),

@@ -29,19 +29,16 @@ impl<V: Service, C: Stream> Model for ServedConnection<V, C> {
 }
 
 impl<V: Service, C: Stream> ServedConnection<V, C> {
-    ghost use Rattle.std.specs.Prelude.{◌≡◌, false, IfSome, IfOk, [], IsTrue};
-    ghost use Rattle.http_stream.specs.declared.stage.Stage.TheVariants as stages;
-    ghost use Rattle.http_stream.specs.Moves.{wants_of};
+    ghost use Rattle.std.specs.Prelude.{◌≡◌, false, IfSome, IfOk, OnErr, [], IsTrue};
+    ghost use Rattle.http_stream.specs.Moves.{Begins, wants_of};
     ghost use Rattle.http_stream.specs.Served.{EndsAs};
-    ghost use Rattle.http_stream.specs.Steps.{ReadStep, AnswerStep, WriteStep, IsOver};
+    ghost use Rattle.http_stream.specs.Steps.{ReadStep, AnswerStep, WriteStep, IsAsked, IsOver};
 
     /// A connection over a stream that gave and took nothing yet; its first step reads. Takes no
     /// memory.
     pub fn new(alloc: Global, stream: C) -> ServedConnection<V, C>
         requires fresh { IfSome (C.told stream) (λ o. (o.given ≡ []) × (o.written ≡ [])) }
-        ensures stream { result.connection.stream ≡ stream }
-        ensures stage { result.connection.stage ≡ stages.Reading }
-        ensures abandoned { result.connection.abandoned ≡ false }
+        ensures begins { Begins stream result.connection }
         ensures waits { result.waits ≡ false }
     {
         ServedConnection {
@@ -68,7 +65,9 @@ impl<V: Service, C: Stream> ServedConnection<V, C> {
     /// The answering step: the text of the answer to a request that is whole. Where a drain began
     /// it says that the connection closes.
     pub fn answer(&mut self, service: &mut V, drained: bool) -> Result<Next, NoMemory>
-        ensures { IfOk result (λ next. AnswerStep drained self.old self.new next) }
+        ensures step { IfOk result (λ next. AnswerStep V.told drained self.old self.new next) }
+        ensures lacks { OnErr result (self.new ≡ record self.old { waits = false }) }
+        ensures service { IsAsked (wants_of self.old.connection) service.old service.new }
     {
         self.waits = false;
         let wanted = self.connection.wants();
@@ -101,7 +100,8 @@ impl<V: Service, C: Stream> ServedConnection<V, C> {
 
     /// Whether it has ended, or is abandoned.
     pub fn is_over(&self) -> bool
-        ensures { IsTrue result → IsOver (wants_of self.now.connection) }
+        ensures over { IsTrue result → IsOver (wants_of self.now.connection) }
+        ensures going { IsOver (wants_of self.now.connection) → IsTrue result }
     {
         match self.connection.wants() {
             Wants::Look => false,
