@@ -50,3 +50,4 @@ pub mod Taking
 pub mod Outlives
 pub mod Giving
 pub mod Winning
+pub mod Sets

@@ -1,5 +1,5 @@
 //! Laws of ownership.
-ghost use Rattle.kj_base.specs.Commands.{Command, Drop, Stop};
+ghost use Rattle.kj_base.specs.Commands.{Clear, Command, Drop, Stop};
 ghost use Rattle.kj_base.specs.Places.{counts};
 ghost use Rattle.kj_base.specs.Queue.{head_of};
 ghost use Rattle.kj_base.specs.Record.{Item};
@@ -17,16 +17,16 @@ ghost use Rattle.kj_model.specs.Owned.{IsInOrder, numbers, tree_roots};
 ghost use Rattle.kj_model.specs.Places.{table_fits};
 ghost use Rattle.kj_model.specs.Trees.{tree_numbers};
 ghost use Rattle.kj_model.specs.Value.{Took, value, value_link};
-ghost use Rattle.kj_model.specs.World.{HubOf, Promise, RequestOf, Setting, State, depth_of, held_at, new_state};
+ghost use Rattle.kj_model.specs.World.{Group, HubOf, Promise, RequestOf, Setting, State, depth_of, held_at, new_state};
 ghost use Rattle.kj_ownership.specs.Firing.{BranchesOutlive, IsFiring, MayWin, Outlives, TakesPlace, event_ended, event_taken, gave_promise, world_freed};
 ghost use Rattle.kj_ownership.specs.Fits.{Fits};
-ghost use Rattle.kj_ownership.specs.Going.{hub_goes};
+ghost use Rattle.kj_ownership.specs.Going.{hub_goes, set_goes};
 ghost use Rattle.kj_ownership.specs.Kept.{Kept, Rests, TakesSpent, is_open};
 ghost use Rattle.kj_ownership.specs.Owners.{is_live, owns};
 ghost use Rattle.kj_ownership.specs.Shapes.{Shaped};
 ghost use Rattle.kj_ownership.specs.Standing.{Owned, Standing, one_if};
 ghost use Rattle.kj_ownership.specs.Stems.{Frames, is_steady, stem};
-ghost use Rattle.std.specs.Prelude.{[], Bool, None, Some, drop, false, flat_map, length, nat_lt, true, ℕ, List, ◌&&◌, ◌*◌, ◌++◌, ◌+◌, ◌^◌, ◌<◌, ◌∷◌, ◌≡◌, ◌≤◌};
+ghost use Rattle.std.specs.Prelude.{[], Bool, None, Some, drop, false, flat_map, length, nat_lt, true, ℕ, List, Option, ◌&&◌, ◌*◌, ◌++◌, ◌+◌, ◌^◌, ◌<◌, ◌∷◌, ◌≡◌, ◌≤◌};
 
 /// A new loop keeps what loops keep between calls, and so does each call that doesn't close it, where the store takes no more nodes than it has slots, and a taking call frees the name of an ended request or of an ask's cell.
 pub fn calls_keep_worlds()
@@ -84,7 +84,8 @@ pub fn close_frees_each_number_once()
 {}
 
 /// A Drop of a promise and a Stop would free just what goes with the tree, read off the nodes as they stand; a Drop of a
-/// hub what goes with the hub, where it has no branch, read off the nodes once it has no name.
+/// hub what goes with the hub, where it has no branch, read off the nodes once it has no name; a Clear or a Drop of a set
+/// what goes with its tasks, one after another, the newest first.
 pub fn busy_reads_what_goes()
     ensures dropped { (f name root : ℕ) (s : State)
         → held_at name s.world.names ≡ Some (Promise root) → would_free f (Drop name) s
@@ -96,6 +97,12 @@ pub fn busy_reads_what_goes()
         → held_at request s.world.names ≡ Some (RequestOf (Some node))
         → would_free f (Stop request) s ≡ is_in f (falling (Holding [])
         (named request (RequestOf None) s.world) (depth_of s.world) [] [] node) }
+    ensures cleared { (f name : ℕ) (error empty : Option ℕ) (tasks : List ℕ) (s : State)
+        → held_at name s.world.names ≡ Some (Group error tasks empty)
+        → would_free f (Clear name) s ≡ is_in f (set_goes tasks s.world) }
+    ensures without_set { (f name : ℕ) (error empty : Option ℕ) (tasks : List ℕ) (s : State)
+        → held_at name s.world.names ≡ Some (Group error tasks empty)
+        → would_free f (Drop name) s ≡ is_in f (set_goes tasks s.world) }
 {}
 
 /// No more nodes live than the trees of the roots have: those of names, the awaited one, those left over, those detached, and hubs.
