@@ -1,5 +1,6 @@
 -- What a Clear or a Drop of a set would free.
-use Rattle.std.proofs.Common.{◌≡◌, ℕ, ◌+◌, List, [], ◌∷◌, length, drop, Bool, Option, Some, refl, ap, ◌∙◌}
+use Rattle.std.proofs.Common.{◌≡◌, ℕ, ◌+◌, List, [], ◌∷◌, length, drop, Bool, Option, Some}
+use Rattle.std.proofs.Common.{refl, ap, ◌∙◌}
 use Rattle.std.specs.Prelude.{reverse}
 use Rattle.std.specs.List.{list_any}
 use Rattle.std.proofs.Math.Seq.{drop-length}
@@ -15,16 +16,19 @@ use Rattle.kj_model.specs.Apply.{is_free_of, would_free}
 use Rattle.kj_model.specs.Falling.{falling, each_falling}
 use Rattle.kj_ownership.specs.Going.{set_goes}
 use Rattle.kj_model.proofs.Falling.{node_frees, each_frees}
-use Rattle.kj_model.proofs.Alike.{falls_alike}
+use Rattle.kj_model.proofs.Alike.{ReadAlike, falls_alike}
 use Rattle.kj_ownership.proofs.Busy.{told_more}
 
 -- a free leaves the limits, so each of these trees is read as deep as the first
-each_deep : (guard : Guard) (limits : Limits) (ns : List ℕ) (s : State) → s.world.limits ≡ limits
+each_deep : (guard : Guard) (limits : Limits) (ns : List ℕ) (s : State)
+    → s.world.limits ≡ limits
     → each_freed (free guard) ns s ≡ each_freed (free_to guard (limits.slots + 1)) ns s
 each_deep guard limits [] s same = refl
 each_deep guard limits (n ∷ ns) s same =
-    each_deep guard limits ns (free guard n s) ((node_frees guard (depth_of s.world) n s).limits ∙ same)
-    ∙ ap (λ (l : Limits). each_freed (free_to guard (limits.slots + 1)) ns (free_to guard (l.slots + 1) n s)) same
+    let deep = free_to guard (limits.slots + 1) in
+    let limits_then = (node_frees guard (depth_of s.world) n s).limits ∙ same in
+    each_deep guard limits ns (free guard n s) limits_then
+    ∙ ap (λ (l : Limits). each_freed deep ns (free_to guard (l.slots + 1) n s)) same
 
 -- the free of this node is among what is told after these items
 abbrev tells_free : ℕ → List Item → List Item → Bool
@@ -36,7 +40,8 @@ each_tells : (f : ℕ) (ns : List ℕ) (s : State)
     ≡ is_in f (each_falling (falling (Holding []) s.world (depth_of s.world) []) [] ns)
 each_tells f ns s =
     let d = depth_of s.world in
-    ap (λ (t : State). tells_free f s.past t.past) (each_deep (Holding []) s.world.limits ns s refl)
+    let deep = each_deep (Holding []) s.world.limits ns s refl in
+    ap (λ (t : State). tells_free f s.past t.past) deep
     ∙ ap (tells_free f s.past) (each_frees (Holding []) d ns s).told
     ∙ told_more f s.past (each_falling (falling (Holding []) s.world d []) [] ns)
 
@@ -47,9 +52,10 @@ cleared_tells f name error empty [] s = ap (list_any (is_free_of f)) (drop-lengt
 cleared_tells f name error empty (task ∷ tasks) s =
     let v = named name (Group error [] empty) s.world in
     let newest = reverse (task ∷ tasks) in
+    let same : ReadAlike v s.world = record { nodes = refl; limits = refl } in
+    let falls_same = falls_alike (Holding []) v s.world (depth_of s.world) same in
     each_tells f newest (silent (named name (Group error [] empty)) s)
-    ∙ ap (λ (falls : List ℕ → List ℕ → ℕ → List ℕ). is_in f (each_falling (falls []) [] newest))
-    (falls_alike (Holding []) v s.world (depth_of s.world) (record { nodes = refl; limits = refl }))
+    ∙ ap (λ falls. is_in f (each_falling (falls []) [] newest)) falls_same
 
 pub clear_would_free : (f name : ℕ) (error empty : Option ℕ) (tasks : List ℕ) (s : State)
     → held_at name s.world.names ≡ Some (Group error tasks empty)
