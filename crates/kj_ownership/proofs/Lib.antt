@@ -51,3 +51,4 @@ pub mod Outlives
 pub mod Giving
 pub mod Winning
 pub mod Sets
+pub mod Leaving

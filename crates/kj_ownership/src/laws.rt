@@ -4,6 +4,7 @@ ghost use Rattle.kj_base.specs.Places.{counts};
 ghost use Rattle.kj_base.specs.Queue.{head_of};
 ghost use Rattle.kj_base.specs.Record.{Item};
 ghost use Rattle.kj_base.specs.declared.numbers.Limits.{Limits};
+ghost use Rattle.kj_base.specs.declared.outcomes.Outcome.{Outcome};
 ghost use Rattle.kj_model.specs.Apply.{apply, is_full, names_after, rows, would_free};
 ghost use Rattle.kj_model.specs.Calls.{Call, call, close, held_awaited, hubs_of, turn};
 ghost use Rattle.kj_model.specs.Changes.{frees_in, named, silent, unnamed};
@@ -12,13 +13,13 @@ ghost use Rattle.kj_model.specs.Falling.{falling};
 ghost use Rattle.kj_model.specs.Fire.{fire_form};
 ghost use Rattle.kj_model.specs.Framed.{times};
 ghost use Rattle.kj_model.specs.Free.{Guard, Holding, free};
-ghost use Rattle.kj_model.specs.Nodes.{Chain, Entry, Race, Side, Waits, form_at, is_in, owner_of};
+ghost use Rattle.kj_model.specs.Nodes.{Chain, Entry, Race, Side, Task, Waits, form_at, is_in, owner_of};
 ghost use Rattle.kj_model.specs.Owned.{IsInOrder, numbers, tree_roots};
 ghost use Rattle.kj_model.specs.Places.{table_fits};
 ghost use Rattle.kj_model.specs.Trees.{tree_numbers};
-ghost use Rattle.kj_model.specs.Value.{Took, value, value_link};
+ghost use Rattle.kj_model.specs.Value.{Took, run_step, value, value_link};
 ghost use Rattle.kj_model.specs.World.{Group, HubOf, Promise, RequestOf, Setting, State, depth_of, held_at, new_state};
-ghost use Rattle.kj_ownership.specs.Firing.{BranchesOutlive, IsFiring, MayWin, Outlives, TakesPlace, event_ended, event_taken, gave_promise, world_freed};
+ghost use Rattle.kj_ownership.specs.Firing.{BranchesOutlive, HasLeftSet, IsFiring, MayWin, Outlives, TakesPlace, event_ended, event_taken, gave_promise, task_off, world_freed};
 ghost use Rattle.kj_ownership.specs.Fits.{Fits};
 ghost use Rattle.kj_ownership.specs.Going.{hub_goes, set_goes};
 ghost use Rattle.kj_ownership.specs.Kept.{Kept, Rests, TakesSpent, is_open};
@@ -207,4 +208,15 @@ pub fn a_race_may_be_won()
         → form_at side s.world.nodes ≡ Some (Side (Waits tree))
         → form_at race s.world.nodes ≡ Some (Race left right None)
         → owns race side s.world.nodes ≡ true → MayWin race left right side tree s.world }
+{}
+
+/// The event of a Task fires: when its tree was evaluated and freed, and the Task has left its set, it lives without a
+/// tree and is left over. Neither what waited until the set was empty nor the error step of the set frees it.
+pub fn a_task_outlives_its_error_step()
+    ensures leaves { (setting : Setting) (n tree : ℕ) (s : State) → Fits setting → IsFiring n s
+        → form_at n s.world.nodes ≡ Some (Task (Some tree))
+        → HasLeftSet n s (task_off setting n tree s) }
+    ensures stays { (setting : Setting) (n tree step : ℕ) (input : Outcome) (s : State)
+        → Fits setting → IsFiring n s → form_at n s.world.nodes ≡ Some (Task (Some tree))
+        → HasLeftSet n s (run_step setting false n step input (task_off setting n tree s)).0 }
 {}
