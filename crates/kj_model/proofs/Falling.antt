@@ -306,3 +306,15 @@ node_frees guard k n s = let f = node_fell guard s.world k [] [] n s (starts s.w
 -- one node goes, which is no branch
 pub gone_freed : (n : ℕ) (s : State) → ((m : ℕ) → is_branch_of m (form_at n s.world.nodes) ≡ false) → FreedBy (n ∷ []) s (gone n s)
 gone_freed n s other = let st = gone_stands s.world [] [] n s.world (away_stands s.world [] [] n s.world other (starts s.world)) in record { told = refl; limits = st.limits; forms = st.forms; frame = st.frame }
+
+-- trees one after another
+pub each_frees : (guard : Guard) (k : ℕ) (ns : List ℕ) (s : State)
+    → FreedBy (each_falling (falling guard s.world k []) [] ns) s (each_freed (free_to guard k) ns s)
+each_frees guard k ns s =
+    let w = s.world in
+    let f = each_fell guard w k [] [] ns s (node_fell guard w k) (starts w) in record {
+      told = f.told;
+      limits = f.stands.limits;
+      forms = f.stands.forms;
+      frame = f.stands.frame;
+    }

@@ -50,3 +50,5 @@ pub mod Taking
 pub mod Outlives
 pub mod Giving
 pub mod Winning
+pub mod Sets
+pub mod Leaving

@@ -75,7 +75,7 @@ branches_outlive n t s f own past b i =
     ap is_some (forms_freed b t past s) ∙ branches_found (form_at n (freed t s).world.nodes) n (freed t s) refl tf.standing b (sym (ap (λ (o : Option Form). is_in b (branches_of o)) (forms_freed n t past s)) ∙ i)
 
 -- the tree is evaluated before
-value_evals : (setting : Setting) (n t : ℕ) (s : State) → Fits setting → IsFiring n s → owns n t s.world.nodes ≡ true → Evals s (value setting t s).0 (n ∷ [])
+pub value_evals : (setting : Setting) (n t : ℕ) (s : State) → Fits setting → IsFiring n s → owns n t s.world.nodes ≡ true → Evals s (value setting t s).0 (n ∷ [])
 value_evals setting n t s fits f own = value_keeps setting (depth_of s.world) (commands_keep setting fits) t s (n ∷ []) f.owned f.shaped (inl (f.fires, f.live)) (λ t_live. fired_frames s n t f.owned f.fires f.live own t_live)
 
 pub evals_firing : (s t : State) (n : ℕ) → Evals s t (n ∷ []) → IsFiring n s → IsFiring n t

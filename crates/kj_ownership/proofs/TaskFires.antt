@@ -183,7 +183,7 @@ ended_fires setting error n (Broken exception) s u commands firing l = error_fir
 pub fires_later : (s t u : State) → SameTurn s.world t.world → Fires t u → Fires s u
 fires_later s t u same f = record { owned = f.owned; shaped = f.shaped; awaited = λ e. f.awaited (same.awaited ∙ e); left_over = λ e runs. f.left_over (same.left_over ∙ e) runs }
 
-task_clears : (t : ℕ) → Clears (Task (Some t)) (Task None) t
+pub task_clears : (t : ℕ) → Clears (Task (Some t)) (Task None) t
 task_clears t = record { parts = refl; none = refl; old_hub = refl; new_hub = refl; branch = λ h. refl; suits = empty_suits (Task (Some t)) (Task None) (record { tree = refl; link = refl; side = refl; task = refl; request = λ n. refl; ended = λ h. absurd (false≢true h) }) refl refl }
 
 valued_fires : (setting : Setting) (n t : ℕ) (o : Option Outcome) (s : State) → CommandsKeep setting → Owned s → Shaped s.world → s.world.firing ≡ Some n → form_at n s.world.nodes ≡ Some (Task (Some t)) → Fires s (task_valued setting n t o s)

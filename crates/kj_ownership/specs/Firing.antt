@@ -1,11 +1,11 @@
 -- What holds of the node whose event fires.
-use Rattle.std.specs.Prelude.{◌≡◌, ◌≢◌, ℕ, List, Option, None, Some, Bool, true, false, ◌==◌}
+use Rattle.std.specs.Prelude.{◌≡◌, ◌≢◌, ℕ, ◌++◌, ◌∷◌, [], List, Option, None, Some, Bool, true, false, ◌==◌}
 use Rattle.kj_base.specs.Record.{Item}
-use Rattle.kj_model.specs.Nodes.{Entry, Fired, Gone, Side, Race, form_at, owner_of, is_in}
-use Rattle.kj_model.specs.World.{World, State}
+use Rattle.kj_model.specs.Nodes.{Entry, Fired, Gone, Side, Race, Task, form_at, owner_of, is_in}
+use Rattle.kj_model.specs.World.{World, State, Setting}
 use Rattle.kj_model.specs.Changes.{silent, put}
-use Rattle.kj_model.specs.Value.{Given, Took, freed}
-use Rattle.kj_model.specs.Fire.{with_firing, branches_of, other_side, tree_freed}
+use Rattle.kj_model.specs.Value.{Given, Took, freed, value}
+use Rattle.kj_model.specs.Fire.{with_firing, branches_of, other_side, tree_freed, set_left}
 use Rattle.kj_model.specs.Calls.{rewound_world, taken_world}
 use Rattle.kj_ownership.specs.Owners.{is_live, owns}
 use Rattle.kj_ownership.specs.Standing.{Owned}
@@ -71,3 +71,15 @@ side_emptied side s = silent (put side (Side Gone)) (tree_freed (form_at side s.
 pub record MayWin (race left right side tree : ℕ) (w : World) : Type 0 where
   pub other : suits OfSide (form_at (loser left right side) w.nodes) ≡ true
   pub outlives : (past : List Item) → is_live race (side_emptied (loser left right side) (record { world = race_decided race left right side tree w; past = past })).world.nodes ≡ true
+
+-- the tree of a Task was evaluated: it is freed, and the Task leaves its set, which may be empty then
+abbrev pub task_off : Setting → ℕ → ℕ → State → State
+task_off setting n tree s =
+    let valued = (value setting tree s).0 in
+    silent (set_left n) (silent (put n (Task None)) (freed tree valued))
+
+-- the event of a Task fires that has left its set since, has no tree, and is left over
+pub record HasLeftSet (n : ℕ) (before after : State) : Type 0 where
+  pub fires : IsFiring n after
+  pub form : form_at n after.world.nodes ≡ Some (Task None)
+  pub left_over : after.world.left_over ≡ before.world.left_over ++ n ∷ []

@@ -1,9 +1,10 @@
 //! Laws of ownership.
-ghost use Rattle.kj_base.specs.Commands.{Command, Drop, Stop};
+ghost use Rattle.kj_base.specs.Commands.{Clear, Command, Drop, Stop};
 ghost use Rattle.kj_base.specs.Places.{counts};
 ghost use Rattle.kj_base.specs.Queue.{head_of};
 ghost use Rattle.kj_base.specs.Record.{Item};
 ghost use Rattle.kj_base.specs.declared.numbers.Limits.{Limits};
+ghost use Rattle.kj_base.specs.declared.outcomes.Outcome.{Outcome};
 ghost use Rattle.kj_model.specs.Apply.{apply, is_full, names_after, rows, would_free};
 ghost use Rattle.kj_model.specs.Calls.{Call, call, close, held_awaited, hubs_of, turn};
 ghost use Rattle.kj_model.specs.Changes.{frees_in, named, silent, unnamed};
@@ -12,21 +13,21 @@ ghost use Rattle.kj_model.specs.Falling.{falling};
 ghost use Rattle.kj_model.specs.Fire.{fire_form};
 ghost use Rattle.kj_model.specs.Framed.{times};
 ghost use Rattle.kj_model.specs.Free.{Guard, Holding, free};
-ghost use Rattle.kj_model.specs.Nodes.{Chain, Entry, Race, Side, Waits, form_at, is_in, owner_of};
+ghost use Rattle.kj_model.specs.Nodes.{Chain, Entry, Race, Side, Task, Waits, form_at, is_in, owner_of};
 ghost use Rattle.kj_model.specs.Owned.{IsInOrder, numbers, tree_roots};
 ghost use Rattle.kj_model.specs.Places.{table_fits};
 ghost use Rattle.kj_model.specs.Trees.{tree_numbers};
-ghost use Rattle.kj_model.specs.Value.{Took, value, value_link};
-ghost use Rattle.kj_model.specs.World.{HubOf, Promise, RequestOf, Setting, State, depth_of, held_at, new_state};
-ghost use Rattle.kj_ownership.specs.Firing.{BranchesOutlive, IsFiring, MayWin, Outlives, TakesPlace, event_ended, event_taken, gave_promise, world_freed};
+ghost use Rattle.kj_model.specs.Value.{Took, run_step, value, value_link};
+ghost use Rattle.kj_model.specs.World.{Group, HubOf, Promise, RequestOf, Setting, State, depth_of, held_at, new_state};
+ghost use Rattle.kj_ownership.specs.Firing.{BranchesOutlive, HasLeftSet, IsFiring, MayWin, Outlives, TakesPlace, event_ended, event_taken, gave_promise, task_off, world_freed};
 ghost use Rattle.kj_ownership.specs.Fits.{Fits};
-ghost use Rattle.kj_ownership.specs.Going.{hub_goes};
+ghost use Rattle.kj_ownership.specs.Going.{hub_goes, set_goes};
 ghost use Rattle.kj_ownership.specs.Kept.{Kept, Rests, TakesSpent, is_open};
 ghost use Rattle.kj_ownership.specs.Owners.{is_live, owns};
 ghost use Rattle.kj_ownership.specs.Shapes.{Shaped};
 ghost use Rattle.kj_ownership.specs.Standing.{Owned, Standing, one_if};
 ghost use Rattle.kj_ownership.specs.Stems.{Frames, is_steady, stem};
-ghost use Rattle.std.specs.Prelude.{[], Bool, None, Some, drop, false, flat_map, length, nat_lt, true, ℕ, List, ◌&&◌, ◌*◌, ◌++◌, ◌+◌, ◌^◌, ◌<◌, ◌∷◌, ◌≡◌, ◌≤◌};
+ghost use Rattle.std.specs.Prelude.{[], Bool, None, Some, drop, false, flat_map, length, nat_lt, true, ℕ, List, Option, ◌&&◌, ◌*◌, ◌++◌, ◌+◌, ◌^◌, ◌<◌, ◌∷◌, ◌≡◌, ◌≤◌};
 
 /// A new loop keeps what loops keep between calls, and so does each call that doesn't close it, where the store takes no more nodes than it has slots, and a taking call frees the name of an ended request or of an ask's cell.
 pub fn calls_keep_worlds()
@@ -84,7 +85,8 @@ pub fn close_frees_each_number_once()
 {}
 
 /// A Drop of a promise and a Stop would free just what goes with the tree, read off the nodes as they stand; a Drop of a
-/// hub what goes with the hub, where it has no branch, read off the nodes once it has no name.
+/// hub what goes with the hub, where it has no branch, read off the nodes once it has no name; a Clear or a Drop of a set
+/// what goes with its tasks, one after another, the newest first.
 pub fn busy_reads_what_goes()
     ensures dropped { (f name root : ℕ) (s : State)
         → held_at name s.world.names ≡ Some (Promise root) → would_free f (Drop name) s
@@ -96,6 +98,12 @@ pub fn busy_reads_what_goes()
         → held_at request s.world.names ≡ Some (RequestOf (Some node))
         → would_free f (Stop request) s ≡ is_in f (falling (Holding [])
         (named request (RequestOf None) s.world) (depth_of s.world) [] [] node) }
+    ensures cleared { (f name : ℕ) (error empty : Option ℕ) (tasks : List ℕ) (s : State)
+        → held_at name s.world.names ≡ Some (Group error tasks empty)
+        → would_free f (Clear name) s ≡ is_in f (set_goes tasks s.world) }
+    ensures without_set { (f name : ℕ) (error empty : Option ℕ) (tasks : List ℕ) (s : State)
+        → held_at name s.world.names ≡ Some (Group error tasks empty)
+        → would_free f (Drop name) s ≡ is_in f (set_goes tasks s.world) }
 {}
 
 /// No more nodes live than the trees of the roots have: those of names, the awaited one, those left over, those detached, and hubs.
@@ -200,4 +208,15 @@ pub fn a_race_may_be_won()
         → form_at side s.world.nodes ≡ Some (Side (Waits tree))
         → form_at race s.world.nodes ≡ Some (Race left right None)
         → owns race side s.world.nodes ≡ true → MayWin race left right side tree s.world }
+{}
+
+/// The event of a Task fires: when its tree was evaluated and freed, and the Task has left its set, it lives without a
+/// tree and is left over. Neither what waited until the set was empty nor the error step of the set frees it.
+pub fn a_task_outlives_its_error_step()
+    ensures leaves { (setting : Setting) (n tree : ℕ) (s : State) → Fits setting → IsFiring n s
+        → form_at n s.world.nodes ≡ Some (Task (Some tree))
+        → HasLeftSet n s (task_off setting n tree s) }
+    ensures stays { (setting : Setting) (n tree step : ℕ) (input : Outcome) (s : State)
+        → Fits setting → IsFiring n s → form_at n s.world.nodes ≡ Some (Task (Some tree))
+        → HasLeftSet n s (run_step setting false n step input (task_off setting n tree s)).0 }
 {}
