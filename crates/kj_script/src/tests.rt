@@ -21,7 +21,7 @@ use std::alloc::Global;
 use std::test::Fail;
 
 // Scripts that never run full.
-const SCRIPTS: [&[u8]; 8] = [
+const SCRIPTS: [&[u8]; 11] = [
     b"limits 64 9\nlater 1\nthen 2 1 10 -\ndetach 2\nlater 3\nthen 4 3 11 -\ndetach 4\nturn\nturn\n",
     b"limits 64 9\nstep 10\nfulfil 5 7\nvalue\npair 4 5\nthen 6 4 11 -\ndetach 6\nlater 1\nthen 2 1 10 -\ndetach 2\nlater 7\nthen 8 7 12 -\ndetach 8\nrun 3\n",
     b"limits 64 9\nlater 1\nlater 2\nrace 3 1 2\ndetach 3\nrun 3\n",
@@ -29,6 +29,9 @@ const SCRIPTS: [&[u8]; 8] = [
     b"limits 64 9\nnow 1 5\nnow 2 6\nall 3 1 2\nthen 4 3 9 -\ndetach 4\nrun 5\n",
     b"limits 24 1\nstep 1\nlater 10\nchain 11 10 1 -\npromise 11\nlater 10\nchain 11 10 1 -\ndetach 11\nrun 1000\n",
     b"limits 64 9\npair 1 2\nthen 3 1 10 -\nwait 3 5\nfulfil 2 7\nwait 3 0\nwait 3 5\nwait 2 1\n",
+    b"limits 64 9\nstep 11\nthrow failed 5\nset 9 40\nlater 1\nthen 2 1 10 -\nadd 9 2\nlater 3\nthen 4 3 11 -\nadd 9 4\nempty 5 9\nthen 6 5 20 -\ndetach 6\nrun 9\n",
+    b"limits 64 9\nstep 40\ndrop 9\ninput\nset 9 40\nfail 1 failed 5\nadd 9 1\nlater 2\nadd 9 2\nempty 5 9\nrun 9\nadd 9 5\n",
+    b"limits 64 9\nset 9 -\npair 1 2\nadd 9 1\npair 3 4\nadd 9 3\nempty 5 9\nempty 6 9\nclear 9\nfulfil 2 1\nwait 5 3\n",
     b"limits 64 9\nlast 1\nthen 2 1 11 -\ndetach 2\nlast 3\nthen 4 3 12 -\ndetach 4\nlater 5\nthen 6 5 13 -\ndetach 6\nrun 3\n",
 ];
 
@@ -103,6 +106,11 @@ fn line_of(alloc: Global, verb: u64, a: u64, b: u64) -> Result<Bytes, NoMemory> 
         13 => format!(in alloc; "fast {a} {b} {c}\n")?,
         14 => format!(in alloc; "detach {a}\n")?,
         15 => format!(in alloc; "wait {a} {b}\n")?,
+        16 => format!(in alloc; "set {a} {step}\n")?,
+        17 => format!(in alloc; "add {a} {b}\n")?,
+        18 => format!(in alloc; "clear {a}\n")?,
+        19 => format!(in alloc; "empty {a} {b}\n")?,
+        20 => format!(in alloc; "drop {a}\n")?,
         _ => format!(in alloc; "turn\n")?,
     };
     let mut line = Bytes::new(alloc);
@@ -120,7 +128,7 @@ fn drawn(alloc: Global, seed: u64, lines: u32) -> Result<Bytes, NoMemory> {
             .wrapping_mul(6_364_136_223_846_793_005)
             .wrapping_add(1_442_695_040_888_963_407);
         let drawn = state >> 33;
-        let line = line_of(alloc, drawn % 18, drawn / 18 % 9 + 1, drawn / 162 % 9 + 1)?;
+        let line = line_of(alloc, drawn % 24, drawn / 24 % 9 + 1, drawn / 216 % 9 + 1)?;
         text.extend(line.as_slice())?;
     }
     Ok(text)

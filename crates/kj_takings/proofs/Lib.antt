@@ -11,3 +11,11 @@ pub mod Closing
 pub mod Beside
 pub mod Worked
 pub mod Listeners
+pub mod Told
+pub mod ToldFrees
+pub mod ToldChanges
+pub mod ToldEffects
+pub mod ToldCommands
+pub mod ToldValues
+pub mod ToldTurns
+pub mod ToldCalls

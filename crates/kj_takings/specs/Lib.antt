@@ -3,3 +3,4 @@ pub mod Spared
 pub mod Calls
 pub mod Worked
 pub mod Arming
+pub mod Told

@@ -94,7 +94,7 @@ root_case root members (PromiseCase link) is = cc
 root_case root members (CellCase cell) is = absurd cc
 root_case root members (AskCase cell taken) is = absurd cc
 root_case root members (HubCase hub) is = absurd cc
-root_case root members (GroupCase error empty) is = absurd cc
+root_case root members (GroupCase error tasks empty) is = absurd cc
 root_case root members CancelerCase is = absurd cc
 root_case root members (RequestCase request) is = absurd cc
 
@@ -108,7 +108,7 @@ wrong_case setting name n members (PromiseCase root) s none = absurd cc
 wrong_case setting name n members (CellCase cell) s none = refl
 wrong_case setting name n members (AskCase cell taken) s none = refl
 wrong_case setting name n members (HubCase hub) s none = refl
-wrong_case setting name n members (GroupCase error empty) s none = refl
+wrong_case setting name n members (GroupCase error tasks empty) s none = refl
 wrong_case setting name n members CancelerCase s none = refl
 wrong_case setting name n members (RequestCase request) s none = refl
 

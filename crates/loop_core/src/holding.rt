@@ -172,7 +172,7 @@ pub(crate) fn free_awaited<N: Nodes + Drop, M: Names + Drop, S: Steps>(
 
 /// A step found no memory: nobody listens any more, and the promise is left over without a name.
 pub(crate) fn lose<N: Nodes + Drop, M: Names + Drop>(ground: &mut Ground<N, M>)
-    requires room { M.over ground.old.names ≡ [] }
+    requires room { length (M.over ground.old.names) ≤ 1 }
     ensures stands { (w : World)
         → Both (N.stands ground.old.nodes) (M.stands ground.old.names) w
         → Both (N.stands ground.new.nodes) (M.stands ground.new.names) (lost w) }

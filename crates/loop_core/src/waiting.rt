@@ -1,5 +1,5 @@
 //! The turns of a wait.
-ghost use Rattle.std.specs.Prelude.{◌≡◌, []};
+ghost use Rattle.std.specs.Prelude.{◌≡◌, ◌≤◌, [], false, length};
 ghost use Rattle.kj_base.specs.Counts.{HasLacked};
 ghost use Rattle.kj_model.specs.World.{State};
 ghost use Rattle.kj_model.specs.Calls.{wait_more};
@@ -41,7 +41,8 @@ pub(crate) fn wait_turns<N: Nodes + Drop, M: Names + Drop, S: Steps>(
     ensures memory { (s : State)
         → Waits N.rule (N.stands over.old.nodes) (M.stands over.old.names) s
         → HasLacked (lacked_at result) (S.lacks steps.old) (S.lacks steps.new) }
-    ensures over { M.over over.new.names ≡ [] }
+    ensures none_over { lacked_at result ≡ false → M.over over.new.names ≡ [] }
+    ensures over { length (M.over over.new.names) ≤ 1 }
 {
     let mut left = turns;
     while left > 0 {

@@ -9,7 +9,7 @@ use Rattle.name_table.proofs.Ranks.{same_is}
 none_some : (a : ℕ) → ◌≡◌ {A = Option ℕ} None (Some a) → ⊥
 none_some a k = cc
 
-unequal : (a b : ℕ) → nat_eq a b ≡ false → a ≡ b → ⊥
+pub unequal : (a b : ℕ) → nat_eq a b ≡ false → a ≡ b → ⊥
 unequal a b t same = absurd (false≢true (sym t ∙ grind (arith, nat_tests)))
 
 here : (old new : ℕ → Option ℕ) (n : ℕ) (r : Option ℕ) → ((m : ℕ) → old m ≡ None) → HasRoot old new n r → (m root : ℕ) → new m ≡ Some root → (b : Bool) → nat_eq m n ≡ b → m ≡ n

@@ -1,7 +1,6 @@
 -- The promise that is awaited, beside those that names have.
 use Rattle.std.proofs.Common.{◌≡◌, ℕ, ◌<◌, Bool, true, false, List, [], Option, None, Some, refl, sym, ap, ◌∙◌, arith}
 use Rattle.std.specs.Prelude.{nat_eq}
-use Rattle.std.proofs.lemmas.Bool.{false≢true}
 use Rattle.std.proofs.lemmas.Bool.Decides.{nat_tests}
 use Rattle.kj_base.specs.declared.nodes.Link.{Link}
 use Rattle.kj_model.specs.Nodes.{renamed_if}
@@ -29,12 +28,15 @@ none_case t n false is none empty = rw is (ap (λ (es : List Entry). root_of (he
 pub no_root : (t : Table) (n : ℕ) → t.awaited ≡ None → t.entries ≡ [] → root_at t n ≡ None
 no_root t n none empty = none_case t n (nat_eq n awaited_key) refl none empty
 
-same_case : (t u : Table) (n : ℕ) (b : Bool) → nat_eq n awaited_key ≡ b → u.awaited ≡ t.awaited → held_in n u.entries ≡ held_in n t.entries → root_at u n ≡ root_at t n
-same_case t u n true is awaited held = rw is (ap (λ (a : Option Awaited). awaited_root (awaited_shown a)) awaited)
-same_case t u n false is awaited held = rw is (ap root_of held)
+same_case : (t u : Table) (n : ℕ) (b : Bool) → nat_eq n awaited_key ≡ b → u.awaited ≡ t.awaited
+    → root_of (held_in n u.entries) ≡ root_of (held_in n t.entries) → root_at u n ≡ root_at t n
+same_case t u n true is awaited held =
+    rw is (ap (λ (a : Option Awaited). awaited_root (awaited_shown a)) awaited)
+same_case t u n false is awaited held = rw is held
 
 -- the same is promised
-pub same_root : (t u : Table) (n : ℕ) → u.awaited ≡ t.awaited → held_in n u.entries ≡ held_in n t.entries → root_at u n ≡ root_at t n
+pub same_root : (t u : Table) (n : ℕ) → u.awaited ≡ t.awaited
+    → root_of (held_in n u.entries) ≡ root_of (held_in n t.entries) → root_at u n ≡ root_at t n
 same_root t u n awaited held = same_case t u n (nat_eq n awaited_key) refl awaited held
 
 apart_case : (t u : Table) (n : ℕ) (b : Bool) → nat_eq n awaited_key ≡ b → (n ≡ awaited_key → ⊥) → u.entries ≡ t.entries → root_at u n ≡ root_at t n

@@ -1,5 +1,5 @@
 -- What the calls of a table leave, for every world that it stands for.
-use Rattle.std.proofs.Common.{◌≡◌, ℕ, ◌<◌, List, [], Option, None, Some, map, refl, sym, ap, ◌∙◌, subst}
+use Rattle.std.proofs.Common.{◌≡◌, ℕ, ◌<◌, List, Option, None, Some, map, refl, sym, ap, ◌∙◌, subst}
 use Rattle.std.specs.Prelude.{filter}
 use Rattle.kj_base.specs.declared.nodes.Link.{Link}
 use Rattle.kj_base.specs.declared.numbers.Name.{Name}
@@ -8,7 +8,7 @@ use Rattle.kj_model.specs.Calls.{with_awaited}
 use Rattle.kj_model.specs.Changes.{named, unnamed}
 use Rattle.kj_model.specs.Nodes.{dropped}
 use Rattle.kj_model.specs.Fire.{awaited_renamed, without_left_over}
-use Rattle.promise_names.specs.Held.{awaited_key, awaited_shown, held_shown, IsLoopsOwn, HasRoot, root_of, roots_replaced}
+use Rattle.promise_names.specs.Held.{awaited_key, awaited_shown, held_shown, IsCounted, IsLoopsOwn, HasRoot, root_of, roots_replaced}
 use Rattle.promise_names.specs.declared.names.Awaited.{Awaited}
 use Rattle.promise_names.specs.declared.names.Held.{Held}
 use Rattle.name_table.specs.declared.entries.Entry.{Entry}
@@ -16,8 +16,8 @@ use Rattle.name_table.specs.Entries.{without_entry, entered, awaited_replaced, e
 use Rattle.name_table.specs.Table.{Table, Stands, root_at, is_other}
 use Rattle.name_table.proofs.Awaited.{awaited_is, root_named, same_root}
 use Rattle.name_table.proofs.Rising.{rising_entered, rising_without, all_entered, all_without, entered_self, entered_other, held_gone, gone_other}
-use Rattle.name_table.proofs.Names.{named_is, unnamed_is}
-use Rattle.name_table.proofs.Replaced.{replaced_is, names_still, rising_replaced, owns_replaced}
+use Rattle.name_table.proofs.Names.{entry_as, seen_named, seen_without}
+use Rattle.name_table.proofs.Replaced.{seen_replaced, names_still, rising_replaced, owns_replaced}
 use Rattle.name_table.proofs.Trees.{trees_dropped}
 
 -- the table with other entries
@@ -32,12 +32,15 @@ with_both es a t = record { entries = es; limit = t.limit; awaited = a; over = t
 abbrev pub with_over : List Link → Table → Table
 with_over links t = record { entries = t.entries; limit = t.limit; awaited = t.awaited; over = links; stopped = t.stopped }
 
-pub set_stands : (name : Name) (held : Held) (es : List Entry) (t : Table) (w : World) → name.0 < awaited_key → IsLoopsOwn held → es ≡ entered (record { name = name; held = held }) t.entries → Stands t w
-    → Stands (with_entries es t) (named name.0 (held_shown [] held) w)
-set_stands name held es t w low ask is st =
-    let x : Entry = record { name = name; held = held } in
-    subst (λ (l : List Entry). Stands (with_entries l t) (named name.0 (held_shown [] held) w)) (sym is) (record {
-      names = named_is name held w.names t.entries st.names;
+pub set_stands : (name : Name) (held : Held) (members : List ℕ) (es : List Entry) (t : Table) (w : World)
+    → name.0 < awaited_key → IsLoopsOwn held → IsCounted members held
+    → es ≡ entered (entry_as name held) t.entries → Stands t w
+    → Stands (with_entries es t) (named name.0 (held_shown members held) w)
+set_stands name held members es t w low ask counted is st =
+    let x : Entry = entry_as name held in
+    let v : World = named name.0 (held_shown members held) w in
+    subst (λ (l : List Entry). Stands (with_entries l t) v) (sym is) (record {
+      names = seen_named name held members t.entries w.names counted st.names;
       rising = rising_entered x t.entries st.rising;
       no_asks = all_entered (λ (e : Entry). IsLoopsOwn e.held) x t.entries ask st.no_asks;
       no_key = all_entered (λ (e : Entry). e.name.0 < awaited_key) x t.entries low st.no_key;
@@ -56,12 +59,12 @@ set_root name held es t low is =
     let x : Entry = record { name = name; held = held } in
     let u : Table = with_entries (entered x t.entries) t in
     subst (λ (l : List Entry). HasRoot (root_at t) (root_at (with_entries l t)) name.0 (root_of (Some held))) (sym is)
-    (root_named u name.0 low ∙ ap root_of (entered_self x t.entries), λ other apart. same_root t u other refl (entered_other x other t.entries apart))
+    (root_named u name.0 low ∙ ap root_of (entered_self x t.entries), λ other apart. same_root t u other refl (ap root_of (entered_other x other t.entries apart)))
 
 pub remove_stands : (n : ℕ) (es : List Entry) (t : Table) (w : World) → es ≡ without_entry n t.entries → Stands t w → Stands (with_entries es t) (unnamed n w)
 remove_stands n es t w is st =
     subst (λ (l : List Entry). Stands (with_entries l t) (unnamed n w)) (sym is) (record {
-      names = unnamed_is n w.names t.entries st.names;
+      names = seen_without n t.entries w.names st.names;
       rising = rising_without n t.entries st.rising;
       no_asks = all_without (λ (e : Entry). IsLoopsOwn e.held) n t.entries st.no_asks;
       no_key = all_without (λ (e : Entry). e.name.0 < awaited_key) n t.entries st.no_key;
@@ -78,13 +81,13 @@ pub remove_root : (n : ℕ) (es : List Entry) (t : Table) → n < awaited_key �
 remove_root n es t low is =
     let u : Table = with_entries (without_entry n t.entries) t in
     subst (λ (l : List Entry). HasRoot (root_at t) (root_at (with_entries l t)) n None) (sym is)
-    (root_named u n low ∙ ap root_of (held_gone n t.entries), λ other apart. same_root t u other refl (gone_other n other t.entries apart))
+    (root_named u n low ∙ ap root_of (held_gone n t.entries), λ other apart. same_root t u other refl (ap root_of (gone_other n other t.entries apart)))
 
 pub rename_stands : (old : ℕ) (new : Link) (es : List Entry) (a : Option Awaited) (t : Table) (w : World) → es ≡ map (entry_replaced old new) t.entries → a ≡ awaited_replaced old new t.awaited
     → Stands t w → Stands (with_both es a t) (roots_replaced old new.number.0 w)
 rename_stands old new es a t w is awaits st =
     subst (λ (l : List Entry). Stands (with_both l a t) (roots_replaced old new.number.0 w)) (sym is) (record {
-      names = replaced_is old new w.names t.entries st.names;
+      names = seen_replaced old new t.entries w.names st.names;
       rising = rising_replaced old new t.entries st.rising;
       no_asks = owns_replaced old new t.entries st.no_asks;
       no_key = names_still old new (λ (n : ℕ). n < awaited_key) t.entries st.no_key;

@@ -7,3 +7,4 @@ pub mod Trees
 pub mod Calls
 pub mod Alone
 pub mod Awaited
+pub mod Regrouped

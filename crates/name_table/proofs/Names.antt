@@ -1,57 +1,79 @@
 -- The entries as the definitions see them.
-use Rattle.std.proofs.Common.{◌≡◌, ℕ, Bool, true, false, List, [], ◌∷◌, Option, None, Some, refl, sym, ap, ◌∙◌, subst}
+use Rattle.std.proofs.Common.{◌≡◌, ℕ, suc, Bool, true, false, List, [], ◌∷◌, length, refl, ap, ◌∙◌}
 use Rattle.std.specs.Prelude.{nat_lt, nat_eq}
 use Rattle.kj_base.specs.declared.numbers.Name.{Name}
-use Rattle.kj_model.specs.World.{Named, Held, held_at}
+use Rattle.kj_model.specs.World.{Named}
 use Rattle.kj_model.specs.Changes.{without_name, with_new}
-use Rattle.promise_names.specs.Held.{held_shown, SeesHeld}
-use Rattle.promise_names.specs.declared.names.Held.{Held as HeldCase}
+use Rattle.promise_names.specs.Held.{held_shown, IsCounted}
+use Rattle.promise_names.specs.declared.names.Held.{Held}
 use Rattle.name_table.specs.declared.entries.Entry.{Entry}
-use Rattle.name_table.specs.Entries.{held_in, without_entry, with_entry, entered, shown_entry, names_of}
+use Rattle.name_table.specs.Entries.{without_entry, with_entry, entered, IsSeen, AreSeen}
 
--- what is seen of what a name holds
-abbrev pub shown_held : Option HeldCase → Option Held
-shown_held None = None
-shown_held (Some held) = Some (held_shown [] held)
+-- there are as many
+pub as_many : (es : List Entry) (xs : List Named) → AreSeen es xs → length xs ≡ length es
+as_many [] [] s = refl
+as_many [] (x ∷ xs) s = absurd s
+as_many (e ∷ es) [] s = absurd s
+as_many (e ∷ es) (x ∷ xs) s = ap (λ (n : ℕ). suc n) (as_many es xs s.1)
 
-seen_step : (n : ℕ) (e : Entry) (es : List Entry) (b : Bool) → nat_eq e.name.0 n ≡ b → held_at n (names_of es) ≡ shown_held (held_in n es) → held_at n (names_of (e ∷ es)) ≡ shown_held (held_in n (e ∷ es))
-seen_step n e es true t ih = rw t refl
-seen_step n e es false t ih = rw t ih
+-- ---- a name goes
 
-pub seen : (n : ℕ) (es : List Entry) → held_at n (names_of es) ≡ shown_held (held_in n es)
-seen n [] = refl
-seen n (e ∷ es) = seen_step n e es (nat_eq e.name.0 n) refl (seen n es)
+without_step : (n : ℕ) (e : Entry) (x : Named) (es : List Entry) (xs : List Named) (b : Bool)
+    → nat_eq e.name.0 n ≡ b → IsSeen e x → AreSeen (without_entry n es) (without_name n xs)
+    → AreSeen (without_entry n (e ∷ es)) (without_name n (x ∷ xs))
+without_step n e x es xs true t s ih =
+    let u : nat_eq x.name n ≡ true = ap (λ (m : ℕ). nat_eq m n) s.name ∙ t in rw (t, u) ih
+without_step n e x es xs false t s ih =
+    let u : nat_eq x.name n ≡ false = ap (λ (m : ℕ). nat_eq m n) s.name ∙ t in rw (t, u) (s, ih)
 
-sees_shown : (o : Option HeldCase) → SeesHeld o (shown_held o)
-sees_shown None = tt
-sees_shown (Some held) = record { members = []; is = refl }
+pub seen_without : (n : ℕ) (es : List Entry) (xs : List Named) → AreSeen es xs
+    → AreSeen (without_entry n es) (without_name n xs)
+seen_without n [] [] s = tt
+seen_without n [] (x ∷ xs) s = absurd s
+seen_without n (e ∷ es) [] s = absurd s
+seen_without n (e ∷ es) (x ∷ xs) s =
+    without_step n e x es xs (nat_eq e.name.0 n) refl s.0 (seen_without n es xs s.1)
 
-pub sees : (n : ℕ) (es : List Entry) (names : List Named) → names ≡ names_of es → SeesHeld (held_in n es) (held_at n names)
-sees n es names is = subst (SeesHeld (held_in n es)) (sym (ap (held_at n) is ∙ seen n es)) (sees_shown (held_in n es))
+-- ---- a name comes
 
-without_step : (n : ℕ) (e : Entry) (es : List Entry) (b : Bool) → nat_eq e.name.0 n ≡ b → names_of (without_entry n es) ≡ without_name n (names_of es) → names_of (without_entry n (e ∷ es)) ≡ without_name n (names_of (e ∷ es))
-without_step n e es true t ih = rw t ih
-without_step n e es false t ih = rw t (ap (λ (l : List Named). shown_entry e ∷ l) ih)
+before_is : (e d : Entry) (x y : Named) (b : Bool) → IsSeen e x → IsSeen d y
+    → nat_lt e.name.0 d.name.0 ≡ b → nat_lt x.name y.name ≡ b
+before_is e d x y b s r t =
+    ap (λ (m : ℕ). nat_lt m y.name) s.name ∙ ap (λ (m : ℕ). nat_lt e.name.0 m) r.name ∙ t
 
-pub names_without : (n : ℕ) (es : List Entry) → names_of (without_entry n es) ≡ without_name n (names_of es)
-names_without n [] = refl
-names_without n (e ∷ es) = without_step n e es (nat_eq e.name.0 n) refl (names_without n es)
+with_step : (e d : Entry) (x y : Named) (es : List Entry) (xs : List Named) (b : Bool)
+    → nat_lt e.name.0 d.name.0 ≡ b → IsSeen e x → AreSeen (d ∷ es) (y ∷ xs)
+    → AreSeen (with_entry e es) (with_new x xs)
+    → AreSeen (with_entry e (d ∷ es)) (with_new x (y ∷ xs))
+with_step e d x y es xs true t s all ih = rw (t, before_is e d x y true s all.0 t) (s, all)
+with_step e d x y es xs false t s all ih = rw (t, before_is e d x y false s all.0 t) (all.0, ih)
 
-with_step : (x e : Entry) (es : List Entry) (b : Bool) → nat_lt x.name.0 e.name.0 ≡ b → names_of (with_entry x es) ≡ with_new (shown_entry x) (names_of es) → names_of (with_entry x (e ∷ es)) ≡ with_new (shown_entry x) (names_of (e ∷ es))
-with_step x e es true t ih = rw t refl
-with_step x e es false t ih = rw t (ap (λ (l : List Named). shown_entry e ∷ l) ih)
+seen_with : (e : Entry) (x : Named) (es : List Entry) (xs : List Named) → IsSeen e x → AreSeen es xs
+    → AreSeen (with_entry e es) (with_new x xs)
+seen_with e x [] [] s all = (s, tt)
+seen_with e x [] (y ∷ ys) s all = absurd all
+seen_with e x (d ∷ es) [] s all = absurd all
+seen_with e x (d ∷ es) (y ∷ xs) s all =
+    with_step e d x y es xs (nat_lt e.name.0 d.name.0) refl s all (seen_with e x es xs s all.1)
 
-names_with : (x : Entry) (es : List Entry) → names_of (with_entry x es) ≡ with_new (shown_entry x) (names_of es)
-names_with x [] = refl
-names_with x (e ∷ es) = with_step x e es (nat_lt x.name.0 e.name.0) refl (names_with x es)
+-- ---- a name holds this now
 
-pub named_is : (name : Name) (held : HeldCase) (names : List Named) (es : List Entry) → names ≡ names_of es
-    → with_new (record { name = name.0; held = held_shown [] held }) (without_name name.0 names) ≡ names_of (entered (record { name = name; held = held }) es)
-named_is name held names es is =
-    let x : Entry = record { name = name; held = held } in
-    ap (λ (l : List Named). with_new (shown_entry x) (without_name name.0 l)) is
-    ∙ ap (with_new (shown_entry x)) (sym (names_without name.0 es))
-    ∙ sym (names_with x (without_entry name.0 es))
+-- the entry that it has
+abbrev pub entry_as : Name → Held → Entry
+entry_as name held = record { name = name; held = held }
 
-pub unnamed_is : (n : ℕ) (names : List Named) (es : List Entry) → names ≡ names_of es → without_name n names ≡ names_of (without_entry n es)
-unnamed_is n names es is = ap (without_name n) is ∙ sym (names_without n es)
+-- what is seen of it
+abbrev pub named_as : ℕ → List ℕ → Held → Named
+named_as name members held = record { name = name; held = held_shown members held }
+
+pub seen_named : (name : Name) (held : Held) (members : List ℕ) (es : List Entry) (xs : List Named)
+    → IsCounted members held → AreSeen es xs
+    → AreSeen (entered (entry_as name held) es)
+    (with_new (named_as name.0 members held) (without_name name.0 xs))
+seen_named name held members es xs counted s =
+    let here : IsSeen (entry_as name held) (named_as name.0 members held) = record {
+      name = refl;
+      held = record { members = members; counted = counted; is = refl };
+    } in
+    seen_with (entry_as name held) (named_as name.0 members held) (without_entry name.0 es)
+    (without_name name.0 xs) here (seen_without name.0 es xs s)

@@ -5,40 +5,60 @@ use Rattle.std.proofs.lemmas.List.{get_or_default}
 use Rattle.std.proofs.lemmas.List.Edits.{map_over_more}
 use Rattle.std.specs.List.{AllByRecursion}
 use Rattle.kj_base.specs.declared.nodes.Link.{Link}
-use Rattle.kj_model.specs.World.{Named, Held, Promise}
+use Rattle.kj_model.specs.World.{Named, Promise}
 use Rattle.kj_model.specs.Nodes.{renamed_if}
 use Rattle.kj_model.specs.Fire.{held_renamed, named_renamed}
-use Rattle.promise_names.specs.Held.{held_shown, IsLoopsOwn, root_of, root_renamed}
+use Rattle.promise_names.specs.Held.{held_shown, IsCounted, IsLoopsOwn, root_of, root_renamed}
 use Rattle.promise_names.specs.declared.names.Held.{Held as HeldCase}
 use Rattle.promise_names.specs.declared.names.Held.TheVariants.{Promise as PromiseCase, CellOf as CellCase, AskCell as AskCase, HubOf as HubCase, Group as GroupCase, Canceler as CancelerCase, RequestOf as RequestCase}
 use Rattle.name_table.specs.declared.entries.Entry.{Entry}
-use Rattle.name_table.specs.Entries.{IsRising, held_in, link_if, held_replaced, entry_replaced, names_of}
+use Rattle.name_table.specs.Entries.{IsRising, held_in, link_if, held_replaced, entry_replaced, IsSeen, AreSeen}
 use Rattle.name_table.specs.Table.{AreLoopsOwn}
 
 link_is : (b : Bool) (new root : Link) → (link_if b new root).number.0 ≡ renamed_if b new.number.0 root.number.0
 link_is true new root = refl
 link_is false new root = refl
 
-held_is : (old : ℕ) (new : Link) (held : HeldCase) → held_shown [] (held_replaced old new held) ≡ held_renamed old new.number.0 (held_shown [] held)
-held_is old new (PromiseCase root) = ap (λ (n : ℕ). Promise n) (link_is (nat_eq root.number.0 old) new root)
-held_is old new (CellCase cell) = refl
-held_is old new (AskCase cell taken) = refl
-held_is old new (HubCase hub) = refl
-held_is old new (GroupCase error empty) = refl
-held_is old new CancelerCase = refl
-held_is old new (RequestCase request) = refl
+held_is : (old : ℕ) (new : Link) (members : List ℕ) (held : HeldCase)
+    → held_renamed old new.number.0 (held_shown members held)
+    ≡ held_shown members (held_replaced old new held)
+held_is old new members (PromiseCase root) =
+    ap (λ (n : ℕ). Promise n) (sym (link_is (nat_eq root.number.0 old) new root))
+held_is old new members (CellCase cell) = refl
+held_is old new members (AskCase cell taken) = refl
+held_is old new members (HubCase hub) = refl
+held_is old new members (GroupCase error tasks empty) = refl
+held_is old new members CancelerCase = refl
+held_is old new members (RequestCase request) = refl
 
-names_replaced : (old : ℕ) (new : Link) (es : List Entry) → names_of (map (entry_replaced old new) es) ≡ map (named_renamed old new.number.0) (names_of es)
-names_replaced old new [] = refl
-names_replaced old new (e ∷ es) =
-    ap (λ (h : Held). named_as e.name.0 h ∷ names_of (map (entry_replaced old new) es)) (held_is old new e.held)
-    ∙ ap (λ (l : List Named). named_as e.name.0 (held_renamed old new.number.0 (held_shown [] e.held)) ∷ l) (names_replaced old new es)
-  where
-    named_as : ℕ → Held → Named
-    named_as n h = record { name = n; held = h }
+counted_is : (old : ℕ) (new : Link) (members : List ℕ) (held : HeldCase) → IsCounted members held
+    → IsCounted members (held_replaced old new held)
+counted_is old new members (PromiseCase root) h = tt
+counted_is old new members (CellCase cell) h = tt
+counted_is old new members (AskCase cell taken) h = tt
+counted_is old new members (HubCase hub) h = tt
+counted_is old new members (GroupCase error tasks empty) h = h
+counted_is old new members CancelerCase h = h
+counted_is old new members (RequestCase request) h = tt
 
-pub replaced_is : (old : ℕ) (new : Link) (names : List Named) (es : List Entry) → names ≡ names_of es → map (named_renamed old new.number.0) names ≡ names_of (map (entry_replaced old new) es)
-replaced_is old new names es is = ap (map (named_renamed old new.number.0)) is ∙ sym (names_replaced old new es)
+seen_entry : (old : ℕ) (new : Link) (e : Entry) (x : Named) → IsSeen e x
+    → IsSeen (entry_replaced old new e) (named_renamed old new.number.0 x)
+seen_entry old new e x s = record {
+  name = s.name;
+  held = record {
+    members = s.held.members;
+    counted = counted_is old new s.held.members e.held s.held.counted;
+    is = ap (held_renamed old new.number.0) s.held.is ∙ held_is old new s.held.members e.held;
+  };
+}
+
+pub seen_replaced : (old : ℕ) (new : Link) (es : List Entry) (xs : List Named) → AreSeen es xs
+    → AreSeen (map (entry_replaced old new) es) (map (named_renamed old new.number.0) xs)
+seen_replaced old new [] [] s = tt
+seen_replaced old new [] (x ∷ xs) s = absurd s
+seen_replaced old new (e ∷ es) [] s = absurd s
+seen_replaced old new (e ∷ es) (x ∷ xs) s =
+    (seen_entry old new e x s.0, seen_replaced old new es xs s.1)
 
 -- what holds of each name still does
 pub names_still : (old : ℕ) (new : Link) (P : ℕ → Type 0) (es : List Entry) → AllByRecursion (λ (e : Entry). P e.name.0) es → AllByRecursion (λ (e : Entry). P e.name.0) (map (entry_replaced old new) es)
@@ -54,7 +74,7 @@ own_still old new (PromiseCase root) h = tt
 own_still old new (CellCase cell) h = tt
 own_still old new (AskCase cell taken) h = h
 own_still old new (HubCase hub) h = tt
-own_still old new (GroupCase error empty) h = tt
+own_still old new (GroupCase error tasks empty) h = tt
 own_still old new CancelerCase h = tt
 own_still old new (RequestCase request) h = h
 
@@ -67,7 +87,7 @@ root_is old new (PromiseCase root) = ap (λ (n : ℕ). Some n) (link_is (nat_eq 
 root_is old new (CellCase cell) = refl
 root_is old new (AskCase cell taken) = refl
 root_is old new (HubCase hub) = refl
-root_is old new (GroupCase error empty) = refl
+root_is old new (GroupCase error tasks empty) = refl
 root_is old new CancelerCase = refl
 root_is old new (RequestCase request) = refl
 

@@ -1,12 +1,13 @@
 -- Names with what they hold, by rising name.
-use Rattle.std.specs.Prelude.{◌<◌, ℕ, zero, suc, List, [], ◌∷◌, Option, None, Some, Bool, true, false, not, ◌==◌, nat_lt, slice_get, filter, map, if◌then◌else◌}
+use Rattle.std.specs.Prelude.{◌≡◌, ◌<◌, ℕ, zero, suc, List, [], ◌∷◌, Option, None, Some, Bool, true, false, not, ◌==◌, nat_lt, slice_get, filter, if◌then◌else◌}
 use Rattle.std.specs.List.{AllByRecursion}
 use Rattle.kj_base.specs.declared.nodes.Link.{Link}
+use Rattle.kj_base.specs.declared.numbers.Name.{Name}
 use Rattle.kj_model.specs.World.{Named}
-use Rattle.promise_names.specs.Held.{held_shown}
+use Rattle.promise_names.specs.Held.{IsHeld}
 use Rattle.promise_names.specs.declared.names.Awaited.{Awaited}
 use Rattle.promise_names.specs.declared.names.Held.{Held}
-use Rattle.promise_names.specs.declared.names.Held.TheVariants.{Promise}
+use Rattle.promise_names.specs.declared.names.Held.TheVariants.{Promise, Group}
 use Rattle.name_table.specs.declared.entries.Entry.{Entry}
 
 -- the names rise
@@ -70,10 +71,27 @@ abbrev pub awaited_replaced : ℕ → Link → Option Awaited → Option Awaited
 awaited_replaced old new None = None
 awaited_replaced old new (Some a) = Some (record { name = a.name; root = link_if (a.root.number.0 == old) new a.root })
 
--- what the definitions see of an entry: a set has no tasks, and a canceler no Wraps
-abbrev pub shown_entry : Entry → Named
-shown_entry e = record { name = e.name.0; held = held_shown [] e.held }
+-- a set that has so many tasks, and this cell waits until it is empty
+abbrev pub held_regrouped : ℕ → Option Link → Held → Held
+held_regrouped tasks empty (Group error old waits) = Group error tasks empty
+held_regrouped tasks empty other = other
 
--- what the definitions see of all
-abbrev pub names_of : List Entry → List Named
-names_of es = map shown_entry es
+-- the entries, where what this name held is a set that has so many tasks now
+abbrev pub entries_regrouped : Option Held → Name → ℕ → Option Link → List Entry → List Entry
+entries_regrouped None group tasks empty es = es
+entries_regrouped (Some held) group tasks empty es = entered (regrouped_as held) es
+  where
+    regrouped_as : Held → Entry
+    regrouped_as held = record { name = group; held = held_regrouped tasks empty held }
+
+-- what the definitions see of an entry: a set has some tasks, and a canceler no Wraps
+pub record IsSeen (e : Entry) (x : Named) : Type 0 where
+  pub name : x.name ≡ e.name.0
+  pub held : IsHeld e.held x.held
+
+-- what the definitions see of all, one by one
+abbrev pub AreSeen : List Entry → List Named → Type 0
+AreSeen [] [] = Unit {0}
+AreSeen [] (x ∷ xs) = ⊥
+AreSeen (e ∷ es) [] = ⊥
+AreSeen (e ∷ es) (x ∷ xs) = IsSeen e x × AreSeen es xs

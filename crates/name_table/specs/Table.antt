@@ -8,7 +8,7 @@ use Rattle.promise_names.specs.Held.{IsLoopsOwn, awaited_key, awaited_shown, roo
 use Rattle.promise_names.specs.declared.names.Awaited.{Awaited}
 use Rattle.name_table.specs.declared.entries.Entry.{Entry}
 use Rattle.name_table.specs.declared.table.NameTable.TheInside.{Inside}
-use Rattle.name_table.specs.Entries.{IsRising, held_in, names_of}
+use Rattle.name_table.specs.Entries.{IsRising, held_in, AreSeen}
 
 -- the entries by rising name, how many names there may be, the promise that is awaited, what is left over, and whether the loop has stopped
 pub record Table : Type 0 where
@@ -46,9 +46,9 @@ AreLoopsOwn es = AllByRecursion (λ (e : Entry). IsLoopsOwn e.held) es
 abbrev pub AreNames : List Entry → Type 0
 AreNames es = AllByRecursion (λ (e : Entry). e.name.0 < awaited_key) es
 
--- the entries are the names of this world, which has their limit, and no asks, ended requests or abandoned cells
+-- the entries are seen in the names of this world, which has their limit, and no asks, ended requests or abandoned cells
 pub record Stands (t : Table) (w : World) : Type 0 where
-  pub names : w.names ≡ names_of t.entries
+  pub names : AreSeen t.entries w.names
   pub rising : IsRising t.entries
   pub no_asks : AreLoopsOwn t.entries
   pub no_key : AreNames t.entries

@@ -1,6 +1,6 @@
 //! Names with what they hold, by rising name.
 ghost use Rattle.std.specs.Prelude.{◌≡◌, ◌<◌, ◌≤◌, ◌+◌, ℕ, IsSome, nat_lt, map, insert, slice_get, vec_len, vec_capacity};
-ghost use Rattle.name_table.specs.Entries.{IsRising, held_in, without_entry, entered, rank, is_name_at, held_if, held_replaced, entry_replaced, awaited_replaced};
+ghost use Rattle.name_table.specs.Entries.{IsRising, held_in, without_entry, entered, rank, is_name_at, held_if, held_replaced, entry_replaced, awaited_replaced, held_regrouped, entries_regrouped};
 
 use kj_base::{Link, Name};
 use promise_names::{Awaited, Held};
@@ -118,5 +118,37 @@ pub(crate) fn replace(entries: &mut Vec<Entry>, old: Link, new: Link)
 {
     for entry in entries.iter_mut() {
         entry.held = held_after(entry.held, old, new);
+    }
+}
+
+/// What a name holds, where a set has so many tasks now, and this cell waits until it is empty.
+pub fn held_with_tasks(held: Held, tasks: u64, empty: Option<Link>) -> Held
+    ensures { result ≡ held_regrouped tasks empty held }
+{
+    match held {
+        Held::Group { error, .. } => Held::Group {
+            error,
+            tasks,
+            empty,
+        },
+        other => other,
+    }
+}
+
+// The set stays in its place.
+pub(crate) fn regroup(entries: &mut Vec<Entry>, group: Name, tasks: u64, empty: Option<Link>)
+    requires { IsRising entries.old.items }
+    ensures items { entries.new.items
+        ≡ entries_regrouped (held_in group.0 entries.old.items) group tasks empty
+        entries.old.items }
+    ensures count { vec_len entries.new ≡ vec_len entries.old }
+    ensures capacity { vec_capacity entries.new ≡ vec_capacity entries.old }
+{
+    let place = place_of(entries, group);
+    if let Some(held) = held_at(entries, place, group) {
+        entries[place] = Entry {
+            name: group,
+            held: held_with_tasks(held, tasks, empty),
+        };
     }
 }

@@ -5,7 +5,7 @@ mod entries;
 pub mod left_over;
 mod table;
 
-pub use entries::{Entry, awaited_after, held_after};
+pub use entries::{Entry, awaited_after, held_after, held_with_tasks};
 pub use table::NameTable;
 
 #[cfg(test)]

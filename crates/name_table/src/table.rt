@@ -98,6 +98,10 @@ impl Names for NameTable {
         entries::take(&mut self.entries, name);
     }
 
+    fn regroup(&mut self, group: Name, tasks: u64, empty: Option<Link>) {
+        entries::regroup(&mut self.entries, group, tasks, empty);
+    }
+
     fn rename(&mut self, old: Link, new: Link) {
         entries::replace(&mut self.entries, old, new);
         self.awaited = entries::awaited_after(self.awaited, old, new);
@@ -142,7 +146,7 @@ impl Names for NameTable {
         left_over::drop_tree(&mut self.over, tree);
     }
 
-    ghost use Rattle.name_table.specs.Laws.{table_nodes_free, table_over_is, table_no_members, table_no_tasks, table_no_requests, table_none_listed, table_once, table_rising, table_limit_is, table_roots_are};
+    ghost use Rattle.name_table.specs.Laws.{table_nodes_free, table_over_is, table_no_wraps, table_no_requests, table_none_listed, table_once, table_rising, table_limit_is, table_roots_are};
 
     ghost nodes_free = { table_nodes_free };
 
@@ -152,9 +156,7 @@ impl Names for NameTable {
 
     ghost none_listed = { table_none_listed };
 
-    ghost no_members = { table_no_members };
-
-    ghost no_tasks = { table_no_tasks };
+    ghost no_wraps = { table_no_wraps };
 
     ghost rising = { table_rising };
 

@@ -1,7 +1,8 @@
 //! Worked lists of calls.
 use crate::NameTable;
-use kj_base::{Limits, Link, Name, NodeId, Slot};
+use kj_base::{Limits, Link, Name, NodeId, Slot, StepId};
 use promise_names::{Awaited, Held, Leaving, Names};
+use std::process::Abort;
 use std::test::Fail;
 
 // How many names there may be in these tests.
@@ -16,6 +17,10 @@ const LIMITS: Limits = Limits {
 enum Call {
     Promise(u32, u64),
     Canceler(u32),
+    // A set without tasks.
+    Group(u32),
+    // A name, its tasks now, and the cell that waits.
+    Regroup(u32, u64, Option<u64>),
     Remove(u32),
 }
 
@@ -40,6 +45,25 @@ fn promise(number: u64) -> Option<Held> {
     Some(Held::Promise(tree(number)))
 }
 
+// The error step of each set.
+const ERROR: Option<StepId> = Some(StepId(2));
+
+fn link(number: Option<u64>) -> Option<Link> {
+    match number {
+        Some(number) => Some(tree(number)),
+        None => None,
+    }
+}
+
+// A set with as many tasks, and the cell that waits until it is empty.
+fn set(tasks: u64, empty: Option<u64>) -> Held {
+    Held::Group {
+        error: ERROR,
+        tasks,
+        empty: link(empty),
+    }
+}
+
 fn make_row(call: Call, name: u32, held: Option<Held>, first: u32, len: u64) -> Row {
     Row {
         call,
@@ -54,10 +78,29 @@ fn make_row(call: Call, name: u32, held: Option<Held>, first: u32, len: u64) -> 
 fn run(names: &mut NameTable, call: &Call) {
     match call {
         Call::Remove(name) => names.remove(Name(*name)),
+        Call::Regroup(name, tasks, empty) => names.regroup(Name(*name), *tasks, link(*empty)),
         _ if names.len() >= u64::from(names.limit()) => {}
         Call::Promise(name, number) => names.set(Name(*name), Held::Promise(tree(*number))),
         Call::Canceler(name) => names.set(Name(*name), Held::Canceler),
+        Call::Group(name) => names.set(
+            Name(*name),
+            Held::Group {
+                error: ERROR,
+                tasks: 0,
+                empty: None,
+            },
+        ),
     }
+}
+
+fn run_rows(rt: &impl Abort, names: &mut NameTable, rows: &[Row]) -> Result<(), Fail> {
+    for row in rows {
+        run(names, &row.call);
+        assert_eq!(rt; names.get(Name(row.name)), row.held);
+        assert_eq!(rt; names.first(), row.first);
+        assert_eq!(rt; names.len(), row.len);
+    }
+    Ok(())
 }
 
 #[test]
@@ -81,14 +124,27 @@ fn names_come_and_go(rt: HostRuntime) -> Result<(), Fail> {
         make_row(Call::Promise(0, 6), 0, promise(6), 0, 3),
         make_row(Call::Remove(9), 7, promise(3), 0, 2),
     ];
-    for row in &rows {
-        run(&mut names, &row.call);
-        assert_eq!(rt; names.get(Name(row.name)), row.held);
-        assert_eq!(rt; names.first(), row.first);
-        assert_eq!(rt; names.len(), row.len);
-    }
+    run_rows(&rt, &mut names, &rows)?;
     assert_eq!(rt; names.limit(), LIMIT);
     Ok(())
+}
+
+#[test]
+fn sets_are_told_their_tasks(rt: HostRuntime) -> Result<(), Fail> {
+    let mut names = NameTable::new(rt.alloc(), LIMITS)?;
+    let rows = [
+        make_row(Call::Group(5), 5, Some(set(0, None)), 5, 1),
+        make_row(Call::Promise(2, 4), 5, Some(set(0, None)), 2, 2),
+        make_row(Call::Group(7), 7, Some(set(0, None)), 2, 3),
+        make_row(Call::Regroup(5, 2, None), 5, Some(set(2, None)), 2, 3),
+        make_row(Call::Regroup(7, 9, Some(6)), 7, Some(set(9, Some(6))), 2, 3),
+        make_row(Call::Regroup(5, 1, Some(8)), 5, Some(set(1, Some(8))), 2, 3),
+        // What is no set stays what it is, and a name that isn't there comes to nothing.
+        make_row(Call::Regroup(2, 3, Some(8)), 2, promise(4), 2, 3),
+        make_row(Call::Regroup(6, 3, None), 6, None, 2, 3),
+        make_row(Call::Remove(2), 7, Some(set(9, Some(6))), 5, 2),
+    ];
+    run_rows(&rt, &mut names, &rows)
 }
 
 #[test]

@@ -1,12 +1,11 @@
 -- The list of a tree that was changed under one name, or under each.
-use Rattle.std.proofs.Common.{◌≡◌, ℕ, Bool, true, false, List, [], ◌∷◌, None, Some, map, refl, sym, ap, ◌∙◌, subst, arith}
+use Rattle.std.proofs.Common.{◌≡◌, ℕ, Bool, true, false, List, [], ◌∷◌, None, Some, map, refl, sym, ap, ◌∙◌, subst}
 use Rattle.std.specs.Prelude.{nat_eq}
-use Rattle.std.proofs.lemmas.Bool.{false≢true}
-use Rattle.std.proofs.lemmas.Bool.Decides.{nat_tests}
 use Rattle.kj_base.specs.declared.nodes.Link.{Link}
 use Rattle.promise_names.specs.declared.names.Held.{Held}
 use Rattle.name_table.specs.declared.entries.Entry.{Entry}
 use Rattle.name_table.specs.Entries.{held_in, without_entry, entered, entry_replaced}
+use Rattle.name_table.proofs.Alone.{unequal}
 use Rattle.name_table.proofs.Ranks.{same_is}
 use Rattle.name_table.proofs.Rising.{rising_entered, rising_without, entered_self, entered_other, held_gone, held_kept, swapped}
 use Rattle.name_table.proofs.Replaced.{rising_replaced}
@@ -15,9 +14,6 @@ use Rattle.name_tree.specs.Trees.{value_at, IsSplit, IsSetAt}
 use Rattle.name_tree.specs.Listed.{listed, held_after, IsRenamed}
 use Rattle.name_tree.proofs.Rises.{held_listed, rising_listed}
 use Rattle.name_tree.proofs.Same.{same_rising}
-
-pub unequal : (a b : ℕ) → nat_eq a b ≡ false → a ≡ b → ⊥
-unequal a b t same = absurd (false≢true (sym t ∙ grind (arith, nat_tests)))
 
 -- ---- a name holds this now
 

@@ -7,12 +7,12 @@ use Rattle.kj_base.specs.declared.numbers.Name.{Name}
 use Rattle.promise_names.specs.Held.{AreApart, root_of}
 use Rattle.promise_names.specs.declared.names.Held.{Held}
 use Rattle.promise_names.specs.declared.names.Held.TheVariants.{Promise, CellOf, AskCell, HubOf, Group, Canceler, RequestOf}
+use Rattle.name_table.proofs.Alone.{unequal}
 use Rattle.name_table.proofs.Ranks.{same_is}
 use Rattle.name_tree.specs.declared.tree.Tree.{Tree}
 use Rattle.name_tree.specs.Trees.{value_at, IsSetAt}
 use Rattle.name_tree.specs.Listed.{root_in, held_after, Knows, IsRenamed}
 use Rattle.name_tree.specs.Roots.{KeepsOthers, KeepsAll, HasName}
-use Rattle.name_tree.proofs.Lists.{unequal}
 
 equal : (a b : ℕ) → a ≡ b → nat_eq a b ≡ true
 equal a b same = grind (arith, nat_tests)
@@ -28,7 +28,7 @@ given old new (Some (Promise root)) is = rw (equal root.number.0 old (number_is 
 given old new (Some (CellOf cell)) is = absurd cc
 given old new (Some (AskCell cell taken)) is = absurd cc
 given old new (Some (HubOf hub)) is = absurd cc
-given old new (Some (Group error empty)) is = absurd cc
+given old new (Some (Group error tasks empty)) is = absurd cc
 given old new (Some Canceler) is = absurd cc
 given old new (Some (RequestOf request)) is = absurd cc
 
@@ -42,7 +42,7 @@ stays old new (Some (Promise root)) other = stays_promise old new root (nat_eq r
 stays old new (Some (CellOf cell)) other = refl
 stays old new (Some (AskCell cell taken)) other = refl
 stays old new (Some (HubOf hub)) other = refl
-stays old new (Some (Group error empty)) other = refl
+stays old new (Some (Group error tasks empty)) other = refl
 stays old new (Some Canceler) other = refl
 stays old new (Some (RequestOf request)) other = refl
 

@@ -5,7 +5,7 @@ use Rattle.kj_base.specs.declared.numbers.Name.{Name}
 use Rattle.promise_names.specs.Held.{root_of}
 use Rattle.promise_names.specs.declared.names.Held.{Held}
 use Rattle.name_table.specs.declared.entries.Entry.{Entry}
-use Rattle.name_table.specs.Entries.{with_entry, held_replaced}
+use Rattle.name_table.specs.Entries.{with_entry, held_replaced, held_regrouped}
 use Rattle.name_tree.specs.declared.tree.Tree.{Tree}
 use Rattle.name_tree.specs.declared.tree.Tree.TheVariants.{Empty, Fork'}
 use Rattle.name_tree.specs.Trees.{value_at}
@@ -31,3 +31,8 @@ held_after old new (Some held) = Some (held_replaced old new held)
 -- a tree was replaced by another under each name
 abbrev pub IsRenamed : ℕ → Link → Tree Held → Tree Held → Type 0
 IsRenamed old new before after = (n : ℕ) → value_at n after ≡ held_after old new (value_at n before)
+
+-- what a name holds, where a set has so many tasks now, and this cell waits until it is empty
+abbrev pub held_told : ℕ → Option Link → Option Held → Option Held
+held_told tasks empty None = None
+held_told tasks empty (Some held) = Some (held_regrouped tasks empty held)

@@ -5,12 +5,13 @@ ghost use Rattle.name_tree.specs.Cuts.{name_cut, root_cut};
 ghost use Rattle.name_tree.specs.Maps.{IsMap, total_of};
 ghost use Rattle.name_tree.specs.Trees.{value_at, count_of, IsSetAt};
 ghost use Rattle.name_tree.specs.Roots.{HasNoName};
-ghost use Rattle.name_tree.specs.Listed.{root_in, Knows, IsRenamed};
+ghost use Rattle.name_tree.specs.Listed.{root_in, held_told, Knows, IsRenamed};
 
 use crate::held::replace_all;
 use crate::map::KeyMap;
 use crate::roots::{forget, learn, name_of};
 use kj_base::{Link, Name};
+use name_table::held_with_tasks;
 use promise_names::Held;
 
 // A name holds this now. Answers whether each root is known.
@@ -64,6 +65,21 @@ pub(crate) fn remove(names: &mut KeyMap<Held>, roots: &mut KeyMap<Name>, name: N
 {
     forget(roots, name, names.get(name.0 as u64));
     names.remove(name.0 as u64);
+}
+
+// A set has so many tasks now, and this cell waits until it is empty.
+pub(crate) fn regroup(names: &mut KeyMap<Held>, group: Name, tasks: u64, empty: Option<Link>)
+    requires { IsMap names.old }
+    ensures set { IsSetAt group.0 (held_told tasks empty (value_at group.0 names.old.tree))
+        names.old.tree names.new.tree }
+    ensures names { IsMap names.new }
+    ensures cut { names.new.cut ≡ names.old.cut }
+    ensures total { total_of names.new ≡ total_of names.old }
+    ensures count { count_of names.new.tree ≡ count_of names.old.tree }
+{
+    if let Some(held) = names.get(group.0 as u64) {
+        names.replace(group.0 as u64, held_with_tasks(held, tasks, empty));
+    }
 }
 
 // The promise of this name has another tree. Answers whether its root is known.

@@ -118,6 +118,10 @@ impl Names for NameTree {
         changes::remove(&mut self.names, &mut self.roots, name);
     }
 
+    fn regroup(&mut self, group: Name, tasks: u64, empty: Option<Link>) {
+        changes::regroup(&mut self.names, group, tasks, empty);
+    }
+
     fn rename(&mut self, old: Link, new: Link) {
         let (names, roots) = (&mut self.names, &mut self.roots);
         self.is_known = changes::rename(names, roots, self.is_known, old, new);
@@ -163,7 +167,7 @@ impl Names for NameTree {
         left_over::drop_tree(&mut self.over, tree);
     }
 
-    ghost use Rattle.name_table.specs.Laws.{table_nodes_free, table_over_is, table_no_members, table_no_tasks, table_no_requests, table_none_listed, table_once, table_rising, table_limit_is, table_roots_are};
+    ghost use Rattle.name_table.specs.Laws.{table_nodes_free, table_over_is, table_no_wraps, table_no_requests, table_none_listed, table_once, table_rising, table_limit_is, table_roots_are};
 
     ghost nodes_free = { table_nodes_free };
 
@@ -173,9 +177,7 @@ impl Names for NameTree {
 
     ghost none_listed = { table_none_listed };
 
-    ghost no_members = { table_no_members };
-
-    ghost no_tasks = { table_no_tasks };
+    ghost no_wraps = { table_no_wraps };
 
     ghost rising = { table_rising };
 

@@ -37,10 +37,18 @@ fn next(seed: u32) -> u32 {
 // A call that the number stands for, where there is room for it.
 fn run<N: Names>(names: &mut N, call: u32, number: u64) {
     let name = Name(call & NAME_BITS);
-    match call >> 8 & 3 {
-        3 => names.remove(name),
+    match call >> 8 & 7 {
+        3 | 7 => names.remove(name),
         _ if names.len() >= u64::from(names.limit()) => {}
         2 => names.set(name, Held::Canceler),
+        6 => names.set(
+            name,
+            Held::Group {
+                error: None,
+                tasks: 0,
+                empty: None,
+            },
+        ),
         _ => names.set(name, Held::Promise(tree(number))),
     }
 }
@@ -56,6 +64,8 @@ fn calls_do_what_those_of_a_table_do(rt: HostRuntime) -> Result<(), Fail> {
         run(&mut names, call, number);
         run(&mut table, call, number);
         let other = Name(next(call) & NAME_BITS);
+        names.regroup(other, number, Some(tree(number)));
+        table.regroup(other, number, Some(tree(number)));
         assert_eq!(rt;
             names.get(Name(call & NAME_BITS)),
             table.get(Name(call & NAME_BITS))
@@ -85,6 +95,36 @@ fn the_lowest_and_the_highest_name_are_names(rt: HostRuntime) -> Result<(), Fail
     assert_eq!(rt; names.get(highest), promise(u64::MAX));
     names.remove(Name(0));
     assert_eq!(rt; names.first(), Some(highest));
+    Ok(())
+}
+
+#[test]
+fn sets_are_told_their_tasks(rt: HostRuntime) -> Result<(), Fail> {
+    let mut names = NameTree::new(rt.alloc(), LIMITS)?;
+    names.set(
+        Name(5),
+        Held::Group {
+            error: None,
+            tasks: 0,
+            empty: None,
+        },
+    );
+    if names.len() < u64::from(names.limit()) {
+        names.set(Name(6), Held::Promise(tree(1)));
+    }
+    let told = Held::Group {
+        error: None,
+        tasks: 3,
+        empty: Some(tree(7)),
+    };
+    // What is no set stays what it is, and a name that isn't there comes to nothing.
+    for number in 4..7 {
+        names.regroup(Name(number), 3, Some(tree(7)));
+    }
+    assert_eq!(rt; names.get(Name(4)), None);
+    assert_eq!(rt; names.get(Name(5)), Some(told));
+    assert_eq!(rt; names.get(Name(6)), promise(1));
+    assert_eq!(rt; names.len(), 2);
     Ok(())
 }
 

@@ -1,15 +1,14 @@
 -- How many names there are after a command's names came and went.
-use Rattle.std.proofs.Common.{◌≡◌, ℕ, ◌+◌, ◌≤◌, ◌<◌, List, [], ◌∷◌, ◌++◌, Option, None, Some, Bool, true, false, refl, sym, ap, ◌∙◌, arith, subst}
+use Rattle.std.proofs.Common.{◌≡◌, ℕ, ◌+◌, ◌≤◌, List, [], ◌∷◌, ◌++◌, Option, None, Some, Bool, true, false, refl, sym, ap, ◌∙◌, arith, subst}
 use Rattle.std.specs.Prelude.{nat_eq, nat_lt, not, ◌&&◌, ◌||◌, ◌==◌, length}
-use Rattle.std.specs.List.{list_any}
 use Rattle.std.proofs.lemmas.Bool.{false≢true}
 use Rattle.std.proofs.lemmas.Bool.Decides.{nat_tests}
 use Rattle.kj_model.specs.World.{World, Named, Held, Awaited, Promise, CellOf, held_at}
 use Rattle.kj_model.specs.Changes.{named, unnamed, with_new, without_name}
-use Rattle.kj_model.specs.Uses.{Role, IsNew, IsSource, IsCell, IsAsk, IsHub, IsGroup, IsGroupAlone, IsCanceler, IsRequest, IsDroppable, Use, is_name, is_new, is_source, used_before, first_failing, found_if, is_unknown, is_wrong, is_taken}
+use Rattle.kj_model.specs.Uses.{Role, IsNew, IsSource, IsCell, IsAsk, IsHub, IsGroup, IsGroupAlone, IsCanceler, IsRequest, IsDroppable, Use, is_name, is_new, is_source, used_before, first_failing, found_if, is_unknown, is_taken}
 use Rattle.kj_model.specs.Apply.{each_named, named_by, with_awaited}
 use Rattle.promise_names.specs.Once.{AreOnce}
-use Rattle.promise_apply.specs.Applying.{ArePassed, names_left, awaited_over, one_if, count_new, count_sources, stays}
+use Rattle.promise_apply.specs.Applying.{ArePassed, names_left, awaited_over, one_if, count_new, count_sources}
 
 zero_plus : (n : ℕ) → 0 + n ≡ n
 zero_plus n = omega arith

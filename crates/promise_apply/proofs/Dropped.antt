@@ -2,58 +2,46 @@
 use Rattle.std.proofs.Common.{◌≡◌, ◌∙◌, ℕ, List, [], ◌∷◌, ◌++◌, Option, None, Some, Bool, true, false, refl, sym, ap, subst, length, drop, reverse}
 use Rattle.std.specs.Prelude.{◌&&◌, ◌||◌, Result, IsErrAnd}
 use Rattle.std.specs.List.{list_any}
-use Rattle.std.proofs.lemmas.Bool.{false≢true}
 use Rattle.std.proofs.lemmas.List.{append-nil}
 use Rattle.std.proofs.Math.Seq.{drop-length}
 use Rattle.kj_base.specs.Commands.{Command, Action, Drop}
 use Rattle.kj_base.specs.Record.{Item}
 use Rattle.promise_commands.specs.Telling.{Telling}
 use Rattle.kj_model.specs.Nodes.{form_at, is_in}
-use Rattle.kj_model.specs.World.{World, State, Held, Promise, HubOf, Group, Canceler, held_at}
+use Rattle.kj_model.specs.World.{World, State, Held, Promise, HubOf, Canceler, held_at}
 use Rattle.kj_model.specs.Changes.{silent, unnamed}
 use Rattle.kj_model.specs.Free.{Guard, Holding, usual}
-use Rattle.kj_model.specs.Effects.{cleared_in, dropped_held, each_cancelled, effect, wraps_of}
+use Rattle.kj_model.specs.Effects.{dropped_held, each_cancelled, effect, wraps_of}
 use Rattle.kj_model.specs.Uses.{Use, use_as, IsDroppable, has_role}
-use Rattle.kj_model.specs.Apply.{Refused, Busy, Full, Stopped, apply, applied, refusal, is_busy, is_busy_at, is_free_of, is_unsettled_wrap, would_free, would_settle}
+use Rattle.kj_model.specs.Apply.{Refused, Full, Stopped, apply, applied, refusal, is_busy, is_busy_at, is_free_of, is_unsettled_wrap, would_free}
 use Rattle.kj_ownership.proofs.Answers.{drop_hub_would_free, drop_would_free}
 use Rattle.promise_commands.specs.Refusals.{refused_of, refusal_of}
 use Rattle.promise_commands.specs.declared.refused.Refused.{Refused as RefusedCase}
 use Rattle.promise_names.specs.declared.names.Held.{Held as HeldCase}
 use Rattle.promise_names.specs.declared.names.Held.TheVariants.{Promise as PromiseCase, CellOf as CellCase, AskCell as AskCase, HubOf as HubCase, Group as GroupCase, Canceler as CancelerCase, RequestOf as RequestCase}
 use Rattle.kj_base.specs.declared.nodes.Link.{Link}
+use Rattle.kj_base.specs.declared.numbers.StepId.{StepId}
 use Rattle.promise_names.specs.Held.{SeesHeld, held_shown, members_of}
 use Rattle.promise_walks.specs.Walks.{Does}
 use Rattle.promise_walks.proofs.Composed.{hears_none}
-use Rattle.promise_apply.specs.Applying.{Applies, DoesCommand, IsApplied, Rule, setting_of, lacks_room, or_else, refused_first, refused_if, names_refused}
-use Rattle.promise_apply.specs.Dropping.{IsHolder, frees_firing, hub_frees_firing}
-use Rattle.promise_apply.proofs.Refused.{none_first, or_else_twice, passed_names, passed_on, refusal_when}
+use Rattle.promise_apply.specs.Applying.{Applies, DoesCommand, IsApplied, Rule, setting_of, lacks_room, refused_first, refused_if, refused_later, names_refused}
+use Rattle.promise_apply.specs.Dropping.{IsCanceler, frees_firing, hub_frees_firing}
+use Rattle.promise_apply.specs.Sets.{IsTasks}
+use Rattle.promise_apply.proofs.Alone.{alone_behind, alone_named, drop_alone}
+use Rattle.promise_apply.proofs.Refused.{none_first, passed_names, passed_on}
 use Rattle.promise_apply.proofs.Passed.{first_role}
-use Rattle.promise_apply.proofs.Idle.{wraps_none}
 
 -- ---- refusals
-
--- why a Drop is refused: by its name, because it is Busy, because it is Full
-refusal_parts : (rule : Rule) (answer : List Item → ℕ → Option Action) (inside : Bool) (name : ℕ) (s : State)
-    → refusal (setting_of rule answer) inside (Drop name) s ≡ or_else (refused_first (use_as IsDroppable name ∷ []) s.world) (or_else (refused_if (is_busy (Drop name) s) (Busy name)) (refused_if (lacks_room rule (use_as IsDroppable name ∷ []) [] s.world) Full))
-refusal_parts rule answer inside name s =
-    let uses = use_as IsDroppable name ∷ [] in
-    refusal_when (is_busy (Drop name) s) rule answer inside (Drop name) s uses [] refl refl refl refl
-    ∙ or_else_twice (refused_if s.world.stopped Stopped) (names_refused uses s.world) (or_else (refused_if (is_busy (Drop name) s) (Busy name)) (refused_if (lacks_room rule uses [] s.world) Full))
 
 -- by its name
 pub refused_named : (rule : Rule) (answer : List Item → ℕ → Option Action) (inside : Bool) (name : ℕ) (r : Refused) (s : State) → Some r ≡ refused_first (use_as IsDroppable name ∷ []) s.world
     → refusal (setting_of rule answer) inside (Drop name) s ≡ Some r
-refused_named rule answer inside name r s first =
-    refusal_parts rule answer inside name s
-    ∙ ap (λ (o : Option Refused). or_else o (or_else (refused_if (is_busy (Drop name) s) (Busy name)) (refused_if (lacks_room rule (use_as IsDroppable name ∷ []) [] s.world) Full))) (sym first)
+refused_named rule answer inside name r s first = alone_named rule answer inside (Drop name) (use_as IsDroppable name) r s (drop_alone name) first
 
 -- its name passes
 pub refused_behind : (rule : Rule) (answer : List Item → ℕ → Option Action) (inside busy : Bool) (name : ℕ) (s : State) → refused_first (use_as IsDroppable name ∷ []) s.world ≡ None → is_busy (Drop name) s ≡ busy
-    → refusal (setting_of rule answer) inside (Drop name) s ≡ or_else (refused_if busy (Busy name)) (refused_if (lacks_room rule (use_as IsDroppable name ∷ []) [] s.world) Full)
-refused_behind rule answer inside busy name s first is =
-    refusal_parts rule answer inside name s
-    ∙ ap (λ (o : Option Refused). or_else o (or_else (refused_if (is_busy (Drop name) s) (Busy name)) (refused_if (lacks_room rule (use_as IsDroppable name ∷ []) [] s.world) Full))) first
-    ∙ ap (λ (b : Bool). or_else (refused_if b (Busy name)) (refused_if (lacks_room rule (use_as IsDroppable name ∷ []) [] s.world) Full)) is
+    → refusal (setting_of rule answer) inside (Drop name) s ≡ refused_later busy rule (use_as IsDroppable name) s.world
+refused_behind rule answer inside busy name s first is = alone_behind rule answer inside busy (Drop name) (use_as IsDroppable name) s (drop_alone name) first is
 
 -- what the count says of the use that is shown
 pub tested_count : (rule : Rule) (name : ℕ) (shown : Use) (w : World) {o : Option Refused} → shown ≡ use_as IsDroppable name
@@ -84,31 +72,33 @@ hub_busy_at (Some f) name hub s at =
 pub hub_busy : (name hub : ℕ) (s : State) → held_at name s.world.names ≡ Some (HubOf hub) → is_busy (Drop name) s ≡ hub_frees_firing s.world.firing hub (unnamed name s.world)
 hub_busy name hub s at = hub_busy_at s.world.firing name hub s at
 
-cons_none : (n : ℕ) (ns : List ℕ) → ◌≡◌ {A = List ℕ} (n ∷ ns) [] → ⊥
-cons_none n ns e = cc
+canceler_dropped : (guard : Guard) (name : ℕ) (o : Option Held) (s : State) → held_at name s.world.names ≡ o → IsCanceler o → wraps_of o ≡ [] → dropped_held guard name o s ≡ silent (unnamed name) s
+canceler_dropped guard name (Some (Canceler wraps)) s at is none =
+    ap (λ (h : Option Held). silent (unnamed name) (each_cancelled guard (reverse (wraps_of h)) s)) at
+    ∙ ap (λ (ws : List ℕ). silent (unnamed name) (each_cancelled guard (reverse ws) s)) none
+canceler_dropped guard name None s at is none = absurd is
+canceler_dropped guard name (Some _) s at is none = absurd is
 
-holder_dropped : (guard : Guard) (name : ℕ) (o : Option Held) (s : State) → held_at name s.world.names ≡ o → IsHolder o → members_of o ≡ [] → dropped_held guard name o s ≡ silent (unnamed name) s
-holder_dropped guard name (Some (Group error [] empty)) s at is none = ap (λ (h : Option Held). silent (unnamed name) (cleared_in guard name h s)) at
-holder_dropped guard name (Some (Group error (task ∷ tasks) empty)) s at is none = absurd (cons_none task tasks none)
-holder_dropped guard name (Some (Canceler [])) s at is none = ap (λ (h : Option Held). silent (unnamed name) (each_cancelled guard (reverse (wraps_of h)) s)) at
-holder_dropped guard name (Some (Canceler (wrap ∷ wraps))) s at is none = absurd (cons_none wrap wraps none)
-holder_dropped guard name None s at is none = absurd is
-holder_dropped guard name (Some _) s at is none = absurd is
+-- a canceler has only Wraps
+pub canceler_none : (o : Option Held) → IsCanceler o → wraps_of o ≡ [] → members_of o ≡ []
+canceler_none (Some (Canceler wraps)) is none = none
+canceler_none None is none = absurd is
+canceler_none (Some _) is none = absurd is
 
--- a set or a canceler without members goes alone
-pub holder_goes : (guard : Guard) (name : ℕ) (s : State) → IsHolder (held_at name s.world.names) → members_of (held_at name s.world.names) ≡ [] → effect guard (Drop name) s ≡ silent (unnamed name) s
-holder_goes guard name s is none = holder_dropped guard name (held_at name s.world.names) s refl is none
+-- a canceler without Wraps goes alone
+pub canceler_goes : (guard : Guard) (name : ℕ) (s : State) → IsCanceler (held_at name s.world.names) → wraps_of (held_at name s.world.names) ≡ [] → effect guard (Drop name) s ≡ silent (unnamed name) s
+canceler_goes guard name s is none = canceler_dropped guard name (held_at name s.world.names) s refl is none
 
-holder_calm_at : (firing : Option ℕ) (name : ℕ) (s : State) → IsHolder (held_at name s.world.names) → members_of (held_at name s.world.names) ≡ [] → is_busy_at firing (Drop name) s ≡ false
-holder_calm_at None name s is none = refl
-holder_calm_at (Some f) name s is none =
-    ap (λ (wraps : List ℕ). (is_in f wraps && is_unsettled_wrap (form_at f s.world.nodes)) || would_free f (Drop name) s) (wraps_none (held_at name s.world.names) none)
-    ∙ ap (λ (t : State). list_any (is_free_of f) (drop (length s.past) t.past)) (holder_goes (Holding []) name s is none)
+canceler_calm_at : (firing : Option ℕ) (name : ℕ) (s : State) → IsCanceler (held_at name s.world.names) → wraps_of (held_at name s.world.names) ≡ [] → is_busy_at firing (Drop name) s ≡ false
+canceler_calm_at None name s is none = refl
+canceler_calm_at (Some f) name s is none =
+    ap (λ (wraps : List ℕ). (is_in f wraps && is_unsettled_wrap (form_at f s.world.nodes)) || would_free f (Drop name) s) none
+    ∙ ap (λ (t : State). list_any (is_free_of f) (drop (length s.past) t.past)) (canceler_goes (Holding []) name s is none)
     ∙ ap (list_any (is_free_of f)) (drop-length s.past)
 
 -- and is never Busy
-pub holder_calm : (name : ℕ) (s : State) → IsHolder (held_at name s.world.names) → members_of (held_at name s.world.names) ≡ [] → is_busy (Drop name) s ≡ false
-holder_calm name s is none = holder_calm_at s.world.firing name s is none
+pub canceler_calm : (name : ℕ) (s : State) → IsCanceler (held_at name s.world.names) → wraps_of (held_at name s.world.names) ≡ [] → is_busy (Drop name) s ≡ false
+canceler_calm name s is none = canceler_calm_at s.world.firing name s is none
 
 -- ---- what is told
 
@@ -146,18 +136,18 @@ pub err_does : (Old New : World → Type 0) (rule : Rule) (r : Result (Unit {0})
 err_does Old New rule r e c told so keep why =
     subst (λ (o : Option Refused). DoesCommand Old New rule o c told told) (sym (passed_on r e so)) (refused_does Old New rule (refused_of e) c told keep why)
 
--- a set or a canceler that is refused
-pub holder_full : (Old : World → Type 0) (rule : Rule) (r : Result (Unit {0}) RefusedCase) (e : RefusedCase) (name : ℕ) → IsErrAnd r (λ x. x ≡ e) → ((answer : List Item → ℕ → Option Action) (inside : Bool) (s : State) → Old s.world → refusal (setting_of rule answer) inside (Drop name) s ≡ Some (refused_of e)) → Applies Old Old rule (refusal_of r) (Drop name)
-holder_full Old rule r e name so why answer inside s old =
+-- a canceler that is refused
+pub canceler_full : (Old : World → Type 0) (rule : Rule) (r : Result (Unit {0}) RefusedCase) (e : RefusedCase) (name : ℕ) → IsErrAnd r (λ x. x ≡ e) → ((answer : List Item → ℕ → Option Action) (inside : Bool) (s : State) → Old s.world → refusal (setting_of rule answer) inside (Drop name) s ≡ Some (refused_of e)) → Applies Old Old rule (refusal_of r) (Drop name)
+canceler_full Old rule r e name so why answer inside s old =
     subst (λ (o : Option Refused). IsApplied Old s.past o (apply (setting_of rule answer) inside (Drop name) s)) (sym (passed_on r e so))
     (subst (IsApplied Old s.past (Some (refused_of e))) (sym (ap (λ (o : Option Refused). applied o (Drop name) s) (why answer inside s old))) (record { reply = refl; stands = old; past_is = refl }))
 
 -- and one that goes
-pub holder_done : (Old New : World → Type 0) (rule : Rule) (name : ℕ) → ((answer : List Item → ℕ → Option Action) (inside : Bool) (s : State) → Old s.world → refusal (setting_of rule answer) inside (Drop name) s ≡ None)
-    → ((w : World) → Old w → IsHolder (held_at name w.names)) → ((w : World) → Old w → members_of (held_at name w.names) ≡ []) → ((w : World) → Old w → New (unnamed name w)) → Applies Old New rule None (Drop name)
-holder_done Old New rule name why is none new answer inside s old =
+pub canceler_done : (Old New : World → Type 0) (rule : Rule) (name : ℕ) → ((answer : List Item → ℕ → Option Action) (inside : Bool) (s : State) → Old s.world → refusal (setting_of rule answer) inside (Drop name) s ≡ None)
+    → ((w : World) → Old w → IsCanceler (held_at name w.names)) → ((w : World) → Old w → wraps_of (held_at name w.names) ≡ []) → ((w : World) → Old w → New (unnamed name w)) → Applies Old New rule None (Drop name)
+canceler_done Old New rule name why is none new answer inside s old =
     let what : apply (setting_of rule answer) inside (Drop name) s ≡ (silent (unnamed name) s, None) =
-    ap (λ (o : Option Refused). applied o (Drop name) s) (why answer inside s old) ∙ ap (λ (t : State). with_none t) (holder_goes (usual s.world) name s (is s.world old) (none s.world old)) in
+    ap (λ (o : Option Refused). applied o (Drop name) s) (why answer inside s old) ∙ ap (λ (t : State). with_none t) (canceler_goes (usual s.world) name s (is s.world old) (none s.world old)) in
     subst (IsApplied New s.past None) (sym what) (record { reply = refl; stands = new s.world old; past_is = refl })
 
 -- ---- what a name is seen to hold
@@ -170,25 +160,14 @@ pub sees_hub : (hub : Link) (o : Option Held) → SeesHeld (Some (HubCase hub)) 
 sees_hub hub None sees = absurd sees
 sees_hub hub (Some seen) sees = ap (λ (h : Held). Some h) sees.is
 
--- a set or a canceler
-abbrev pub is_holder : Option HeldCase → Bool
-is_holder (Some (GroupCase error empty)) = true
-is_holder (Some CancelerCase) = true
-is_holder other = false
+-- a set has the tasks that are seen
+pub sees_set : (error : Option StepId) (tasks : ℕ) (empty : Option Link) (o : Option Held) → SeesHeld (Some (GroupCase error tasks empty)) o → IsTasks (record { count = tasks; empty = empty }) o
+sees_set error tasks empty None sees = absurd sees
+sees_set error tasks empty (Some seen) sees = subst (λ (h : Held). IsTasks (record { count = tasks; empty = empty }) (Some h)) (sym sees.is) (sees.counted, refl)
 
-shown_holder : (members : List ℕ) (held : HeldCase) → is_holder (Some held) ≡ true → IsHolder (Some (held_shown members held))
-shown_holder members (GroupCase error empty) is = tt
-shown_holder members CancelerCase is = tt
-shown_holder members (PromiseCase root) is = absurd (false≢true is)
-shown_holder members (CellCase cell) is = absurd (false≢true is)
-shown_holder members (AskCase cell is_taken) is = absurd (false≢true is)
-shown_holder members (HubCase hub) is = absurd (false≢true is)
-shown_holder members (RequestCase request) is = absurd (false≢true is)
-
-pub sees_holder : (held : Option HeldCase) (o : Option Held) → SeesHeld held o → is_holder held ≡ true → IsHolder o
-sees_holder None o sees is = absurd (false≢true is)
-sees_holder (Some held) None sees is = absurd sees
-sees_holder (Some held) (Some seen) sees is = subst (λ (h : Held). IsHolder (Some h)) (sym sees.is) (shown_holder sees.members held is)
+pub sees_canceler : (o : Option Held) → SeesHeld (Some CancelerCase) o → IsCanceler o
+sees_canceler None sees = absurd sees
+sees_canceler (Some seen) sees = subst (λ (h : Held). IsCanceler (Some h)) (sym sees.is) tt
 
 -- a name that passes can be dropped
 pub droppable : (name : ℕ) (w : World) → refused_first (use_as IsDroppable name ∷ []) w ≡ None → has_role IsDroppable (held_at name w.names) ≡ true
@@ -199,7 +178,7 @@ droppable name w first =
 abbrev pub is_droppable : Option HeldCase → Bool
 is_droppable (Some (PromiseCase root)) = true
 is_droppable (Some (HubCase hub)) = true
-is_droppable (Some (GroupCase error empty)) = true
+is_droppable (Some (GroupCase error tasks empty)) = true
 is_droppable (Some CancelerCase) = true
 is_droppable other = false
 
@@ -208,7 +187,7 @@ shown_droppable members (PromiseCase root) = refl
 shown_droppable members (CellCase cell) = refl
 shown_droppable members (AskCase cell is_taken) = refl
 shown_droppable members (HubCase hub) = refl
-shown_droppable members (GroupCase error empty) = refl
+shown_droppable members (GroupCase error tasks empty) = refl
 shown_droppable members CancelerCase = refl
 shown_droppable members (RequestCase request) = refl
 

@@ -9,5 +9,8 @@ pub mod Passed
 pub mod Several
 pub mod Told
 pub mod Idle
+pub mod Alone
 pub mod Dropped
 pub mod Restored
+pub mod Tasked
+pub mod Cleared

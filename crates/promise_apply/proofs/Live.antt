@@ -1,13 +1,13 @@
 -- The node that was built is live, and in no set.
-use Rattle.std.proofs.Common.{◌≡◌, ℕ, ◌+◌, ◌<◌, List, [], ◌∷◌, ◌++◌, Option, None, Some, Bool, true, false, refl, sym, ap, ◌∙◌, arith, subst}
+use Rattle.std.proofs.Common.{◌≡◌, ℕ, ◌<◌, List, [], ◌∷◌, ◌++◌, Option, None, Some, Bool, true, false, refl, sym, ap, ◌∙◌, arith, subst}
 use Rattle.std.specs.Prelude.{nat_eq, nat_lt, IsSome}
-use Rattle.std.proofs.lemmas.Bool.{false≢true}
 use Rattle.std.proofs.lemmas.Bool.Decides.{nat_tests}
 use Rattle.kj_base.specs.Places.{Spot, spot_of}
 use Rattle.kj_model.specs.Nodes.{Form, Entry, form_at, is_in}
 use Rattle.kj_model.specs.World.{World}
 use Rattle.kj_model.specs.Places.{built, placed, placed_over, placed_if}
 use Rattle.promise_nodes.specs.Kept.{IsLive}
+use Rattle.promise_nodes.specs.Members.{IsNoMember}
 
 last_case : (b : Bool) (n : ℕ) (e : Entry) (es : List Entry) → nat_eq e.number n ≡ b → IsSome (form_at n es) → IsSome (form_at n (e ∷ es))
 last_case true n e es h s = rw h refl
@@ -65,3 +65,7 @@ unlisted_task next n w below e v same = rw same (absent_case (is_in n w.detached
 -- building one changes no name
 pub built_held : (before : Option ℕ) (form : Form) (w : World) → (built before form w).names ≡ w.names
 built_held before form w = ap (λ (v : World). v.names) (placed_same before w)
+
+-- nor a member of a list, as those were built before
+pub unlisted_member : (next n : ℕ) (lists : ℕ → List ℕ) → ((list : ℕ) → is_in n (lists list) ≡ true → n < next) → n ≡ next → IsNoMember n lists
+unlisted_member next n lists below e list = absent_case (is_in n (lists list)) (λ h. not_below n next e (below list h))

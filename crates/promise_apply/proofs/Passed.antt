@@ -1,12 +1,12 @@
 -- What names that pass tell of a world.
-use Rattle.std.proofs.Common.{◌≡◌, ℕ, List, [], ◌∷◌, ◌++◌, Option, None, Some, Bool, true, false, refl, sym, ap, ◌∙◌, arith, subst}
-use Rattle.std.specs.Prelude.{nat_eq, nat_lt, not, ◌&&◌, ◌||◌, is_some}
+use Rattle.std.proofs.Common.{◌≡◌, ℕ, List, [], ◌∷◌, Option, None, Some, Bool, true, false, refl, sym, ap, ◌∙◌, subst}
+use Rattle.std.specs.Prelude.{nat_eq, nat_lt, is_some}
 use Rattle.std.proofs.lemmas.Bool.{false≢true}
-use Rattle.kj_model.specs.World.{World, Named, Held, Promise, CellOf, AskCell, HubOf, Group, Canceler, RequestOf, held_at}
+use Rattle.kj_model.specs.World.{World, Named, Held, Promise, CellOf, HubOf, held_at}
 use Rattle.kj_model.specs.Nodes.{Form, Side, Waits}
-use Rattle.kj_model.specs.Changes.{unnamed, without_name, with_new, named}
+use Rattle.kj_model.specs.Changes.{unnamed, without_name, with_new}
 use Rattle.kj_model.specs.Effects.{node_of, node_named, over_built, sides_built, leaf_built}
-use Rattle.kj_model.specs.Uses.{Role, IsNew, IsSource, IsCell, IsHub, Use, use_as, used_as, new_over, is_name, is_promise, is_cell, is_hub, has_role, first_failing, is_unknown, is_wrong, is_taken, used_before, is_new, is_source}
+use Rattle.kj_model.specs.Uses.{Role, IsNew, Use, use_as, is_name, is_promise, is_cell, is_hub, has_role, is_wrong, is_taken, used_before, is_new}
 use Rattle.promise_names.specs.Held.{IsListless}
 use Rattle.promise_apply.specs.Applying.{ArePassed}
 use Rattle.promise_apply.proofs.Uses.{name_held}

@@ -1,5 +1,5 @@
 -- Refusals of a command by its names and rows.
-use Rattle.std.proofs.Common.{◌≡◌, ℕ, List, [], ◌∷◌, Option, None, Some, Bool, true, false, refl, sym, ap, ◌∙◌, subst, length, drop}
+use Rattle.std.proofs.Common.{◌≡◌, ℕ, List, [], Option, None, Some, Bool, true, false, refl, sym, ap, ◌∙◌, subst, length, drop}
 use Rattle.std.specs.Prelude.{nat_lt, not, ◌&&◌, ◌||◌, ◌^◌}
 use Rattle.std.specs.List.{list_any}
 use Rattle.std.specs.Prelude.{Result, Ok, Err, IsErrAnd}
@@ -14,7 +14,7 @@ use Rattle.kj_model.specs.Changes.{silent}
 use Rattle.kj_model.specs.Free.{Holding, usual}
 use Rattle.kj_model.specs.Effects.{effect}
 use Rattle.kj_model.specs.Uses.{Use, uses_of, first_failing, is_outside, is_unknown, is_wrong, is_taken}
-use Rattle.kj_model.specs.Apply.{Refused, Unknown, WrongKind, Taken, Busy, Full, Stopped, apply, applied, refusal, refused_stopped, refused_inside, refused_unknown, refused_wrong, refused_taken, refused_busy, refused_full, is_full, is_busy, is_busy_at, is_free_of, would_free, would_settle, rows, names_after, each_named, with_awaited, is_none, name_of_first}
+use Rattle.kj_model.specs.Apply.{Refused, Unknown, WrongKind, Taken, Busy, Full, Stopped, apply, applied, refusal, refused_stopped, refused_inside, refused_unknown, refused_wrong, refused_taken, refused_busy, refused_full, is_full, is_busy, is_busy_at, is_free_of, would_free, would_settle, rows, names_after, is_none, name_of_first}
 use Rattle.promise_apply.specs.Applying.{Rule, setting_of, IsApplied, Applies, IsCommand, IsIdle, ArePassed, names_refused, refused_for, refused_when, refused_if, refused_name, or_else, lacks_room, names_left}
 
 both_false : (a b : Bool) → a ≡ false → b ≡ false → (a || b) ≡ false

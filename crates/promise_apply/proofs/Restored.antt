@@ -4,8 +4,8 @@ use Rattle.std.specs.Prelude.{nat_eq, ◌&&◌}
 use Rattle.std.proofs.lemmas.Bool.Decides.{nat_tests}
 use Rattle.kj_base.specs.declared.nodes.Content.{Content as ContentCase}
 use Rattle.kj_base.specs.declared.nodes.Form.{Form as FormCase}
-use Rattle.kj_base.specs.declared.nodes.Form.TheVariants.{Ready as ReadyCase, Later as LaterCase, Last as LastCase, Cell as CellCase, Branch as BranchCase, Then as ThenCase, Chain as ChainCase, Eager as EagerCase, Wrap as WrapCase, Hub as HubCase, Side as SideCase, Race as RaceCase, Join as JoinCase, Task as TaskCase, Request as RequestCase}
-use Rattle.kj_model.specs.Nodes.{Content, Form, Entry, Hub, form_at, formed, is_in, parts_at, parts_found, parts_of, with_form}
+use Rattle.kj_base.specs.declared.nodes.Form.TheVariants.{Hub as HubCase}
+use Rattle.kj_model.specs.Nodes.{Content, Form, Entry, Hub, form_at, is_in, parts_found, parts_of, with_form}
 use Rattle.kj_model.specs.World.{World, depth_of}
 use Rattle.kj_model.specs.Free.{Holding}
 use Rattle.kj_model.specs.Falling.{falling, hub_falling}

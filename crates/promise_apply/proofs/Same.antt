@@ -4,7 +4,7 @@ use Rattle.kj_base.specs.Queue.{Way}
 use Rattle.kj_base.specs.declared.outcomes.Outcome.{Outcome}
 use Rattle.kj_model.specs.Nodes.{Form, Cell, form_at}
 use Rattle.kj_model.specs.World.{World, Held, depth_of}
-use Rattle.kj_model.specs.Changes.{named, unnamed, arm_listener, put}
+use Rattle.kj_model.specs.Changes.{named, unnamed, put}
 use Rattle.kj_model.specs.Effects.{with_detached}
 use Rattle.kj_model.specs.Listening.{listened, listened_if, listened_way, listener, ready, is_last, settled, settled_form}
 use Rattle.promise_nodes.specs.Kept.{SameNodes, SameNames}

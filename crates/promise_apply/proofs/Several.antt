@@ -1,14 +1,12 @@
 -- The names of a join that pass.
 use Rattle.std.proofs.Common.{◌≡◌, ℕ, ◌+◌, length, List, [], ◌∷◌, ◌++◌, Option, None, Some, Bool, true, false, refl, sym, ap, ◌∙◌, arith, subst}
-use Rattle.std.specs.Prelude.{nat_eq, not, ◌&&◌, ◌||◌, ◌==◌, is_some, map}
-use Rattle.std.specs.List.{list_any}
-use Rattle.std.proofs.lemmas.Bool.{false≢true}
+use Rattle.std.specs.Prelude.{not, ◌&&◌, ◌||◌, ◌==◌, is_some, map}
 use Rattle.kj_base.specs.Places.{Row, row}
 use Rattle.kj_base.specs.declared.numbers.Name.{Name}
 use Rattle.kj_model.specs.Nodes.{is_in}
-use Rattle.kj_model.specs.World.{World, Held, Promise, held_at}
+use Rattle.kj_model.specs.World.{World, Promise, held_at}
 use Rattle.kj_model.specs.Effects.{node_named}
-use Rattle.kj_model.specs.Uses.{Use, use_as, used_as, new_over, IsNew, IsSource, is_name, is_promise, is_source, is_new, has_role, used_before, first_failing, is_unknown, is_wrong}
+use Rattle.kj_model.specs.Uses.{Use, use_as, used_as, new_over, IsNew, IsSource, is_name, is_promise, is_source, used_before, first_failing, is_unknown, is_wrong}
 use Rattle.kj_model.specs.Apply.{before_source}
 use Rattle.promise_commands.specs.Commands.{name_numbers}
 use Rattle.promise_apply.specs.Applying.{ArePassed, count_new, count_sources}

@@ -1,12 +1,12 @@
 -- Sides over sources, one after another, and trees that get listeners.
 use Rattle.std.proofs.Common.{◌≡◌, ℕ, ◌+◌, ◌<◌, ◌≤◌, length, List, [], ◌∷◌, ◌++◌, Option, None, Some, Bool, true, false, refl, sym, ap, ◌∙◌, arith, subst}
-use Rattle.std.specs.Prelude.{zero, suc, nat_eq, ◌||◌, ◌==◌, ◌^◌, ◌-◌, IsTrue, map}
+use Rattle.std.specs.Prelude.{zero, suc, nat_eq, ◌||◌, ◌==◌, ◌^◌, IsTrue}
 use Rattle.kj_base.specs.Places.{Row, row}
 use Rattle.std.specs.List.{list_any, AllByRecursion}
 use Rattle.std.proofs.lemmas.Bool.{false≢true}
 use Rattle.std.proofs.lemmas.Bool.Decides.{nat_tests}
-use Rattle.kj_model.specs.Nodes.{Form, is_in}
-use Rattle.kj_model.specs.World.{World, Promise, Named, held_at}
+use Rattle.kj_model.specs.Nodes.{is_in}
+use Rattle.kj_model.specs.World.{World, Promise, held_at}
 use Rattle.kj_model.specs.Changes.{unnamed, without_name}
 use Rattle.kj_model.specs.Effects.{node_of, node_named, over_built, sides_built, each_listened, trees_named}
 use Rattle.kj_model.specs.Listening.{listened}

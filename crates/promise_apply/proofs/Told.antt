@@ -1,10 +1,9 @@
 -- Commands of which nothing is told.
-use Rattle.std.proofs.Common.{◌≡◌, ◌∙◌, ℕ, List, [], ◌++◌, Option, Bool, sym}
+use Rattle.std.proofs.Common.{◌∙◌, [], Option, sym}
 use Rattle.std.proofs.lemmas.List.{append-nil}
-use Rattle.kj_base.specs.Commands.{Command, Action}
-use Rattle.kj_base.specs.Record.{Item}
+use Rattle.kj_base.specs.Commands.{Command}
 use Rattle.promise_commands.specs.Telling.{Telling}
-use Rattle.kj_model.specs.World.{World, State}
+use Rattle.kj_model.specs.World.{World}
 use Rattle.kj_model.specs.Apply.{Refused}
 use Rattle.promise_walks.proofs.Composed.{hears_none}
 use Rattle.promise_apply.specs.Applying.{Applies, DoesCommand, Rule}

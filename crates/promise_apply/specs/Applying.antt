@@ -5,7 +5,7 @@ use Rattle.kj_base.specs.Places.{Spot, Row}
 use Rattle.kj_base.specs.Record.{Item}
 use Rattle.promise_commands.specs.Telling.{Telling, Hears}
 use Rattle.promise_commands.specs.declared.command.Command.{Command as CommandCase}
-use Rattle.promise_commands.specs.declared.command.Command.TheVariants.{Drop as DropCase}
+use Rattle.promise_commands.specs.declared.command.Command.TheVariants.{Clear as ClearCase, Drop as DropCase}
 use Rattle.kj_model.specs.World.{World, State, Setting, Awaited}
 use Rattle.kj_model.specs.Changes.{silent}
 use Rattle.kj_model.specs.Free.{Guard}
@@ -79,6 +79,11 @@ refused_for rule uses built w = or_else (refused_if w.stopped Stopped) (or_else 
 abbrev pub refused_when : Bool → Rule → List Use → List Row → World → Option Refused
 refused_when busy rule uses built w = or_else (refused_if w.stopped Stopped) (or_else (names_refused uses w) (or_else (refused_if busy (Busy (name_of_first uses))) (refused_if (lacks_room rule uses built w) Full)))
 
+-- why a command with one name, which builds nothing, is refused once that passes: Busy, then Full
+abbrev pub refused_later : Bool → Rule → Use → World → Option Refused
+refused_later busy rule u w =
+    or_else (refused_if busy (Busy u.name)) (refused_if (lacks_room rule (u ∷ []) [] w) Full)
+
 -- no name refuses
 pub record ArePassed (uses : List Use) (w : World) : Type 0 where
   pub unknown : first_failing (is_unknown w) [] uses ≡ None
@@ -117,6 +122,7 @@ pub record HasRoom (room : List Row → Bool) (next count limit : ℕ) (uses : L
 
 -- a command that frees nothing
 abbrev pub IsSilent : CommandCase → Type 0
+IsSilent (ClearCase group) = ⊥
 IsSilent (DropCase name) = ⊥
 IsSilent other = Unit {0}
 

@@ -3,12 +3,12 @@ use Rattle.std.specs.Prelude.{◌≡◌, ℕ, List, [], ◌∷◌, Option, None,
 use Rattle.kj_base.specs.declared.nodes.Form.{Form as FormCase}
 use Rattle.kj_base.specs.declared.nodes.Form.TheVariants.{Hub as HubCase}
 use Rattle.kj_model.specs.Nodes.{Form, Hub, is_in}
-use Rattle.kj_model.specs.World.{World, Held, Group, Canceler, held_at, depth_of}
+use Rattle.kj_model.specs.World.{World, Held, Canceler, held_at, depth_of}
 use Rattle.kj_model.specs.Effects.{hub_unnamed}
 use Rattle.kj_model.specs.Free.{Holding}
 use Rattle.kj_model.specs.Falling.{falling}
 use Rattle.kj_model.specs.Uses.{use_as, IsDroppable}
-use Rattle.kj_ownership.specs.Going.{hub_goes}
+use Rattle.kj_ownership.specs.Going.{hub_goes, set_goes}
 use Rattle.promise_nodes.specs.Shown.{content_shown}
 use Rattle.promise_apply.specs.Applying.{refused_first}
 
@@ -22,6 +22,11 @@ abbrev pub hub_frees_firing : Option ℕ → ℕ → World → Bool
 hub_frees_firing None hub w = false
 hub_frees_firing (Some f) hub w = is_in f (hub_goes hub (hub_unnamed hub w))
 
+-- the same with these tasks of a set, the newest first
+abbrev pub set_frees_firing : Option ℕ → List ℕ → World → Bool
+set_frees_firing None tasks w = false
+set_frees_firing (Some f) tasks w = is_in f (set_goes tasks w)
+
 -- the form of a hub is seen just where the node is a hub
 abbrev pub SeesHub : Option FormCase → Option Form → Type 0
 SeesHub (Some (HubCase content is_named)) (Some (Hub content_seen is_named_seen branches)) = (content_seen ≡ content_shown content) × (is_named_seen ≡ is_named)
@@ -34,13 +39,12 @@ pub record MayDrop (name : ℕ) (held : Option Held) (w : World) : Type 0 where
   pub held_is : held_at name w.names ≡ held
   pub passes : refused_first (use_as IsDroppable name ∷ []) w ≡ None
 
--- a set or a canceler
-abbrev pub IsHolder : Option Held → Type 0
-IsHolder (Some (Group error tasks empty)) = Unit {0}
-IsHolder (Some (Canceler wraps)) = Unit {0}
-IsHolder other = ⊥
+-- a canceler
+abbrev pub IsCanceler : Option Held → Type 0
+IsCanceler (Some (Canceler wraps)) = Unit {0}
+IsCanceler other = ⊥
 
--- a name is a set's or a canceler's, and a Drop of it passes the tests of names
-pub record MayDropHolder (name : ℕ) (w : World) : Type 0 where
-  pub holder : IsHolder (held_at name w.names)
+-- a name is a canceler's, and a Drop of it passes the tests of names
+pub record MayDropCanceler (name : ℕ) (w : World) : Type 0 where
+  pub canceler : IsCanceler (held_at name w.names)
   pub passes : refused_first (use_as IsDroppable name ∷ []) w ≡ None

@@ -3,3 +3,4 @@ pub mod Uses
 pub mod Joining
 pub mod Applying
 pub mod Dropping
+pub mod Sets

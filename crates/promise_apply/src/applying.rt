@@ -22,10 +22,11 @@ ghost use Rattle.promise_apply.specs.Applying.{Applies, IsApplied, IsCommand, Is
 use crate::building::{Over, build_leaf, build_over, detach};
 use crate::cells::{build_pair, drop_cell, settle_cell};
 use crate::chaining::{build_chain, build_fork, build_listening};
-use crate::groups::{apply_cancel, apply_clear, apply_empty, apply_holder};
+use crate::groups::{apply_cancel, apply_holder};
 use crate::joining::{Joined, build_joined};
 use crate::naming::{Role, Use};
 use crate::refusing::check;
+use crate::sets::{apply_add, apply_empty};
 use crate::sharing::build_branch;
 use crate::sources::{cell_named, hub_named, root_named, sources_named};
 use arrayvec::ArrayVec;
@@ -644,17 +645,19 @@ pub(crate) fn apply_silent<N: Nodes, M: Names>(
         Command::NewSet { group, error } => {
             let held = Held::Group {
                 error: *error,
+                tasks: 0,
                 empty: None,
             };
             apply_holder(nodes, names, *group, held)
         }
+        Command::Add { group, source } => apply_add(nodes, names, *group, *source),
         Command::OnEmpty { name, group } => apply_empty(nodes, names, *name, *group),
-        Command::Clear { group } => apply_clear(nodes, names, *group),
         Command::NewCanceler { canceler } => {
             apply_holder(nodes, names, *canceler, Held::Canceler)
         }
         Command::Cancel { canceler } => apply_cancel(nodes, names, *canceler),
-        // A Drop isn't silent.
+        // A Clear and a Drop aren't silent.
+        Command::Clear { .. } => Ok(()),
         Command::Drop { .. } => Ok(()),
     }
 }

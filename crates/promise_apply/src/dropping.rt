@@ -1,21 +1,24 @@
 //! What a name holds goes.
-ghost use Rattle.std.specs.Prelude.{◌≡◌, ◌≤◌, ◌+◌, ℕ, Bool, List, Option, Some, vec_capacity};
+ghost use Rattle.std.specs.Prelude.{◌≡◌, ◌≤◌, ◌+◌, [], ◌∷◌, ℕ, Bool, List, Option, None, Some, vec_capacity};
 ghost use Rattle.kj_base.specs.Commands.{Action, Drop};
 ghost use Rattle.kj_base.specs.Record.{Item};
-ghost use Rattle.kj_model.specs.World.{World, State, Promise, HubOf};
+ghost use Rattle.kj_model.specs.World.{World, State, Promise, HubOf, held_at};
 ghost use Rattle.kj_model.specs.Apply.{refusal};
 ghost use Rattle.kj_model.specs.Uses.{use_as, IsDroppable};
 ghost use Rattle.promise_commands.specs.Refusals.{refusal_of};
 ghost use Rattle.promise_nodes.specs.Kept.{OnlyFalls, OnlyRises};
 ghost use Rattle.promise_names.specs.Held.{AreFree};
 ghost use Rattle.promise_apply.specs.Building.{Both};
-ghost use Rattle.promise_apply.specs.Applying.{Applies, DoesCommand, setting_of};
+ghost use Rattle.promise_apply.specs.Applying.{Applies, DoesCommand, refused_first, setting_of};
 ghost use Rattle.promise_apply.specs.Uses.{use_shown};
-ghost use Rattle.promise_apply.specs.Dropping.{MayDrop, MayDropHolder};
+ghost use Rattle.promise_apply.specs.Dropping.{MayDrop, MayDropCanceler};
+ghost use Rattle.promise_apply.specs.Sets.{IsTasks};
 
 use crate::busy::{frees_firing, hub_frees_firing};
+use crate::clearing::{check_tasks, clear_tasks};
 use crate::naming::{Role, Use};
 use crate::refusing::{check_count, check_named};
+use crate::sets::Tasks;
 use kj_base::{Link, Name};
 use promise_commands::{Refused, Steps};
 use promise_names::{Held, Names};
@@ -157,10 +160,47 @@ fn drop_hub<N: Nodes, M: Names, S: Steps>(
     Ok(())
 }
 
-// A set or a canceler goes, which has nothing.
-fn drop_holder<N: Nodes, M: Names>(nodes: &N, names: &mut M, name: Name) -> Result<(), Refused>
+// A set goes with its tasks.
+fn drop_set<N: Nodes, M: Names, S: Steps>(
+    nodes: &mut N,
+    names: &mut M,
+    frames: &mut Vec<Frame>,
+    search: &mut Vec<Parts>,
+    name: Name,
+    tasks: Tasks,
+    steps: &mut S,
+) -> Result<(), Refused>
+    requires passes { (w : World) → Both (N.stands nodes.old) (M.stands names.old) w
+        → refused_first (use_as IsDroppable name.0 ∷ []) w ≡ None }
+    requires tasks { (w : World) → M.stands names.old w
+        → IsTasks tasks (held_at name.0 w.names) }
+    requires free { AreFree (M.roots names.old) (N.is_taken nodes.old) (N.next nodes.old) }
+    requires few { M.count names.old ≤ M.limit names.old }
+    requires frames_room { N.slots nodes.old + 1 ≤ vec_capacity frames.old }
+    requires search_room { N.slots nodes.old + 1 ≤ vec_capacity search.old }
+    ensures applied { DoesCommand (Both (N.stands nodes.old) (M.stands names.old))
+        (Both (N.stands nodes.new) (M.stands names.new)) N.rule (refusal_of result) (Drop name.0)
+        (S.told steps.old) (S.told steps.new) }
+    ensures lacks { S.lacks steps.new ≡ S.lacks steps.old }
+    ensures free { AreFree (M.roots names.new) (N.is_taken nodes.new) (N.next nodes.new) }
+    ensures few { M.count names.new ≤ M.limit names.new }
+    ensures limit { M.limit names.new ≡ M.limit names.old }
+    ensures slots { N.slots nodes.new ≡ N.slots nodes.old }
+    ensures plain { OnlyRises (N.is_plain nodes.old) (N.is_plain nodes.new) }
+    ensures over { M.over names.new ≡ M.over names.old }
+    ensures frames_room { vec_capacity frames.old ≤ vec_capacity frames.new }
+    ensures search_room { vec_capacity search.old ≤ vec_capacity search.new }
+{
+    check_tasks(nodes, names, frames, dropped(name))?;
+    clear_tasks(nodes, names, frames, search, name, tasks, steps);
+    names.remove(name);
+    Ok(())
+}
+
+// A canceler goes, which has no Wrap.
+fn drop_canceler<N: Nodes, M: Names>(nodes: &N, names: &mut M, name: Name) -> Result<(), Refused>
     requires held { (w : World) → Both (N.stands nodes.now) (M.stands names.old) w
-        → MayDropHolder name.0 w }
+        → MayDropCanceler name.0 w }
     requires free { AreFree (M.roots names.old) (N.is_taken nodes.now) (N.next nodes.now) }
     requires few { M.count names.old ≤ M.limit names.old }
     ensures applied { Applies (Both (N.stands nodes.now) (M.stands names.old))
@@ -207,8 +247,14 @@ pub(crate) fn apply_drop<N: Nodes, M: Names, S: Steps>(
             drop_promise(nodes, names, frames, search, name, root, steps)
         }
         Some(Held::HubOf(hub)) => drop_hub(nodes, names, frames, search, name, hub, steps),
-        Some(Held::Group { .. }) => drop_holder(nodes, names, name),
-        Some(Held::Canceler) => drop_holder(nodes, names, name),
+        Some(Held::Group { tasks, empty, .. }) => {
+            let held = Tasks {
+                count: tasks,
+                empty,
+            };
+            drop_set(nodes, names, frames, search, name, held, steps)
+        }
+        Some(Held::Canceler) => drop_canceler(nodes, names, name),
         Some(Held::CellOf(_)) => Ok(()),
         Some(Held::AskCell { .. }) => Ok(()),
         Some(Held::RequestOf(_)) => Ok(()),

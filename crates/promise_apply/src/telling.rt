@@ -8,6 +8,7 @@ ghost use Rattle.promise_apply.specs.Building.{Both};
 ghost use Rattle.promise_apply.specs.Applying.{DoesCommand};
 
 use crate::applying::apply_silent;
+use crate::clearing::apply_clear;
 use crate::dropping::apply_drop;
 use promise_commands::{Command, Refused, Steps};
 use promise_names::Names;
@@ -42,6 +43,7 @@ pub fn apply<N: Nodes, M: Names, S: Steps>(
     ensures search_room { vec_capacity search.old ≤ vec_capacity search.new }
 {
     match command {
+        Command::Clear { group } => { apply_clear(nodes, names, frames, search, *group, steps) }
         Command::Drop { name } => { apply_drop(nodes, names, frames, search, *name, steps) }
         _ => apply_silent(nodes, names, command),
     }

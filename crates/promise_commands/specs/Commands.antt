@@ -1,9 +1,9 @@
 -- The commands that the Rust variants are.
 use Rattle.std.specs.Prelude.{ℕ, List, map}
-use Rattle.kj_base.specs.Commands.{Command, Action, step_of, Now, Broken, Later, Last, Pair, Then, Chain, Eager, Fork, Branch, Race, All, Fast, Fulfil, Reject, DropCell, Detach, NewSet, OnEmpty, Clear, NewCanceler, Cancel, Drop}
+use Rattle.kj_base.specs.Commands.{Command, Action, step_of, Now, Broken, Later, Last, Pair, Then, Chain, Eager, Fork, Branch, Race, All, Fast, Fulfil, Reject, DropCell, Detach, NewSet, Add, OnEmpty, Clear, NewCanceler, Cancel, Drop}
 use Rattle.kj_base.specs.declared.numbers.Name.{Name}
 use Rattle.promise_commands.specs.declared.command.Command.{Command as CommandCase}
-use Rattle.promise_commands.specs.declared.command.Command.TheVariants.{Now as NowCase, Broken as BrokenCase, Later as LaterCase, Last as LastCase, Pair as PairCase, Then as ThenCase, Chain as ChainCase, Eager as EagerCase, Fork as ForkCase, Branch as BranchCase, Race as RaceCase, All as AllCase, Fast as FastCase, Fulfil as FulfilCase, Reject as RejectCase, DropCell as DropCellCase, Detach as DetachCase, NewSet as NewSetCase, OnEmpty as OnEmptyCase, Clear as ClearCase, NewCanceler as NewCancelerCase, Cancel as CancelCase, Drop as DropCase}
+use Rattle.promise_commands.specs.declared.command.Command.TheVariants.{Now as NowCase, Broken as BrokenCase, Later as LaterCase, Last as LastCase, Pair as PairCase, Then as ThenCase, Chain as ChainCase, Eager as EagerCase, Fork as ForkCase, Branch as BranchCase, Race as RaceCase, All as AllCase, Fast as FastCase, Fulfil as FulfilCase, Reject as RejectCase, DropCell as DropCellCase, Detach as DetachCase, NewSet as NewSetCase, Add as AddCase, OnEmpty as OnEmptyCase, Clear as ClearCase, NewCanceler as NewCancelerCase, Cancel as CancelCase, Drop as DropCase}
 use Rattle.promise_commands.specs.declared.action.Action.{Action as ActionCase}
 
 -- the numbers of names
@@ -30,6 +30,7 @@ command_of (RejectCase cell exception) = Reject cell.0 exception
 command_of (DropCellCase cell) = DropCell cell.0
 command_of (DetachCase source) = Detach source.0
 command_of (NewSetCase group error) = NewSet group.0 (step_of error)
+command_of (AddCase group source) = Add group.0 source.0
 command_of (OnEmptyCase name group) = OnEmpty name.0 group.0
 command_of (ClearCase group) = Clear group.0
 command_of (NewCancelerCase canceler) = NewCanceler canceler.0

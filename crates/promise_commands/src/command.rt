@@ -98,6 +98,11 @@ pub enum Command {
         group: Name,
         error: Option<StepId>,
     },
+    /// The source goes into a set as a task (kj/async.h, `TaskSet::add`).
+    Add {
+        group: Name,
+        source: Name,
+    },
     /// A promise that a set is empty (kj/async.h, `TaskSet::onEmpty`).
     OnEmpty {
         name: Name,
@@ -209,6 +214,10 @@ impl Command {
             Command::NewSet { group, error } => Command::NewSet {
                 group: *group,
                 error: *error,
+            },
+            Command::Add { group, source } => Command::Add {
+                group: *group,
+                source: *source,
             },
             Command::OnEmpty { name, group } => Command::OnEmpty {
                 name: *name,

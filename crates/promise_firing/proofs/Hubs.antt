@@ -16,8 +16,9 @@ use Rattle.kj_model.proofs.Falling.{node_frees}
 use Rattle.promise_nodes.specs.Kept.{is_hub, is_live}
 use Rattle.promise_nodes.specs.Once.{AreOnce}
 use Rattle.promise_nodes.proofs.Hubs.{hubs_first, hubs_live}
-use Rattle.promise_firing.specs.Closed.{free_hub, live_below}
-use Rattle.promise_firing.proofs.Emptied.{stays_dead, not_again, newest_first, some_live}
+use Rattle.promise_walks.specs.Living.{live_below}
+use Rattle.promise_firing.specs.Closed.{free_hub}
+use Rattle.promise_walks.proofs.Newest.{stays_dead, not_again, newest_first, some_live}
 
 -- ---- hubs by number
 

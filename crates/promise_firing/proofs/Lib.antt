@@ -1,7 +1,7 @@
 pub mod Announced
-pub mod Changing
 pub mod Emptied
 pub mod Fired
+pub mod Grouped
 pub mod Kept
 pub mod Hubs
 pub mod Lists
@@ -9,5 +9,4 @@ pub mod Named
 pub mod Replacing
 pub mod Same
 pub mod Sets
-pub mod Tasks
 pub mod Unlisted

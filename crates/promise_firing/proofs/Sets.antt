@@ -2,12 +2,10 @@
 use Rattle.std.proofs.Common.{◌≡◌, ◌∙◌, refl, sym, ap, subst, ℕ, List, [], Option, None, Some, Bool, true, false}
 use Rattle.std.specs.Prelude.{reverse}
 use Rattle.std.proofs.lemmas.Bool.{false≢true}
-use Rattle.kj_model.specs.World.{World, State, Held, Promise, CellOf, AskCell, HubOf, Group, Canceler, RequestOf, held_at, depth_of}
+use Rattle.kj_model.specs.World.{World, State, Held, Promise, CellOf, AskCell, HubOf, Group, Canceler, RequestOf, held_at}
 use Rattle.kj_model.specs.Changes.{silent, unnamed}
-use Rattle.kj_model.specs.Framed.{stripped}
 use Rattle.kj_model.specs.Free.{Holding, each_freed}
 use Rattle.kj_model.specs.Calls.{closed_held}
-use Rattle.kj_model.proofs.Falling.{node_frees}
 use Rattle.promise_nodes.specs.Members.{lists_in, members_of, newest_member}
 use Rattle.promise_names.specs.Once.{AreRising}
 use Rattle.promise_names.specs.declared.names.Held.{Held as HeldCase}
@@ -15,33 +13,13 @@ use Rattle.promise_names.specs.declared.names.Held.TheVariants.{Promise as Promi
 use Rattle.promise_names.specs.Held.{IsSet, SeesHeld, held_shown}
 use Rattle.promise_walks.proofs.Commuted.{frees_commute}
 use Rattle.promise_firing.specs.Closed.{found_closed, free_one, is_set, name_closed, set_closed, tasks_closed}
-use Rattle.promise_firing.proofs.Emptied.{newest_first, none_first}
+use Rattle.promise_walks.proofs.Newest.{newest_first, none_first, set_stays as stays_one}
 
 -- ---- while tasks go
 
-stripped_set : (a b : Option Held) → IsSet b → stripped a ≡ stripped b → a ≡ b
-stripped_set None (Some (Group error tasks empty)) is e = cc
-stripped_set (Some (Promise root)) (Some (Group error tasks empty)) is e = cc
-stripped_set (Some (CellOf cell)) (Some (Group error tasks empty)) is e = cc
-stripped_set (Some (AskCell cell is_taken)) (Some (Group error tasks empty)) is e = cc
-stripped_set (Some (HubOf hub)) (Some (Group error tasks empty)) is e = cc
-stripped_set (Some (Group error2 tasks2 empty2)) (Some (Group error tasks empty)) is e = e
-stripped_set (Some (Canceler wraps)) (Some (Group error tasks empty)) is e = absurd (no_both wraps error empty tasks e)
-  where
-    no_both : (wraps : List ℕ) (error empty : Option ℕ) (tasks : List ℕ) → ◌≡◌ {A = Option Held} (Some (Canceler [])) (Some (Group error tasks empty)) → ⊥
-    no_both wraps error empty tasks e = cc
-stripped_set (Some (RequestOf request)) (Some (Group error tasks empty)) is e = cc
-stripped_set a None is e = absurd is
-stripped_set a (Some (Promise root)) is e = absurd is
-stripped_set a (Some (CellOf cell)) is e = absurd is
-stripped_set a (Some (AskCell cell is_taken)) is e = absurd is
-stripped_set a (Some (HubOf hub)) is e = absurd is
-stripped_set a (Some (Canceler wraps)) is e = absurd is
-stripped_set a (Some (RequestOf request)) is e = absurd is
-
 -- a set stays as it is while a tree goes
 pub set_stays : (name t : ℕ) (s : State) → IsSet (held_at name s.world.names) → held_at name (free_one t s).world.names ≡ held_at name s.world.names
-set_stays name t s is = stripped_set (held_at name (free_one t s).world.names) (held_at name s.world.names) is ((node_frees (Holding []) (depth_of s.world) t s).frame.at name)
+set_stays name t s is = stays_one (Holding []) name t s is
 
 goes_case : (o : Option Held) (t : ℕ) (s : State) → IsSet o → newest_member s.world (members_of o) ≡ Some t → tasks_closed o (free_one t s) ≡ tasks_closed o s
 goes_case (Some (Group error tasks empty)) t s is h = sym (newest_first (Holding []) (reverse tasks) t s h)
@@ -53,7 +31,7 @@ pub task_goes : (name t : ℕ) (s : State) → IsSet (held_at name s.world.names
 task_goes name t s is h = ap (λ (o : Option Held). tasks_closed o (free_one t s)) (set_stays name t s is) ∙ goes_case (held_at name s.world.names) t s is h
 
 ends_case : (o : Option Held) (s : State) → IsSet o → newest_member s.world (members_of o) ≡ None → tasks_closed o s ≡ s
-ends_case (Some (Group error tasks empty)) s is h = none_first (reverse tasks) s h
+ends_case (Some (Group error tasks empty)) s is h = none_first (Holding []) (reverse tasks) s h
 ends_case None s is h = absurd is
 ends_case (Some _) s is h = absurd is
 
@@ -64,7 +42,7 @@ no_task_goes name s is h = ends_case (held_at name s.world.names) s is h
 -- ---- what is seen of a name
 
 set_shown : (members : List ℕ) (held : HeldCase) → is_set (Some held) ≡ true → IsSet (Some (held_shown members held))
-set_shown members (GroupCase error empty) is = tt
+set_shown members (GroupCase error tasks empty) is = tt
 set_shown members (PromiseCase root) is = absurd (false≢true is)
 set_shown members (CellCase cell) is = absurd (false≢true is)
 set_shown members (AskCase cell is_taken) is = absurd (false≢true is)
@@ -79,7 +57,7 @@ sees_set (Some held) None sees is = absurd sees
 sees_set (Some held) (Some seen) sees is = subst (λ (h : Held). IsSet (Some h)) (sym sees.is) (set_shown sees.members held is)
 
 other_shown : (members : List ℕ) (held : HeldCase) (s : State) → is_set (Some held) ≡ false → tasks_closed (Some (held_shown members held)) s ≡ s
-other_shown members (GroupCase error empty) s is = absurd (false≢true (sym is))
+other_shown members (GroupCase error tasks empty) s is = absurd (false≢true (sym is))
 other_shown members (PromiseCase root) s is = refl
 other_shown members (CellCase cell) s is = refl
 other_shown members (AskCase cell is_taken) s is = refl
@@ -98,7 +76,7 @@ sees_other (Some held) (Some seen) s sees is = ap (λ (h : Held). tasks_closed (
 
 shown_first : (held : HeldCase) (members : List ℕ) (name : ℕ) (s : State) → AreRising s.world.names → held_at name s.world.names ≡ Some (held_shown members held)
     → closed_held (held_shown [] held) (silent (unnamed name) (tasks_closed (Some (held_shown members held)) s)) ≡ closed_held (held_shown members held) (silent (unnamed name) s)
-shown_first (GroupCase error empty) members name s rising at = sym (frees_commute name None tt (Holding []) (reverse members) s (rising, subst IsSet (sym at) tt)).0
+shown_first (GroupCase error tasks empty) members name s rising at = sym (frees_commute name None tt (Holding []) (reverse members) s (rising, subst IsSet (sym at) tt)).0
 shown_first (PromiseCase root) members name s rising at = refl
 shown_first (CellCase cell) members name s rising at = refl
 shown_first (AskCase cell is_taken) members name s rising at = refl

@@ -5,7 +5,6 @@ use Rattle.kj_model.specs.Changes.{silent, unnamed}
 use Rattle.kj_model.specs.Effects.{hub_unnamed}
 use Rattle.kj_model.specs.Free.{Holding, Every, free, each_freed, reference_gone}
 use Rattle.kj_model.specs.Calls.{closed_held}
-use Rattle.promise_nodes.specs.Kept.{is_live}
 use Rattle.promise_names.specs.declared.names.Held.{Held as HeldCase}
 use Rattle.promise_names.specs.declared.names.Held.TheVariants.{Group as GroupCase}
 
@@ -37,7 +36,7 @@ name_closed name s = found_closed (held_at name s.world.names) (silent (unnamed 
 
 -- whether a name is seen to hold a set
 abbrev pub is_set : Option HeldCase → Bool
-is_set (Some (GroupCase error empty)) = true
+is_set (Some (GroupCase error tasks empty)) = true
 is_set other = false
 
 -- the tasks of a set go, newest first
@@ -48,8 +47,3 @@ tasks_closed other s = s
 -- the same by the name of the set
 abbrev pub set_closed : ℕ → State → State
 set_closed name s = tasks_closed (held_at name s.world.names) s
-
--- how many nodes live with numbers below this one
-abbrev pub live_below : ℕ → World → ℕ
-live_below zero w = 0
-live_below (suc k) w = cond (is_live w k) 1 0 + live_below k w

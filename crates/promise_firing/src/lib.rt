@@ -25,4 +25,4 @@ pub use keeping::keep_outcome;
 pub use owners::{Above, Joined, above_side};
 pub use races::win_race;
 pub use sides::{count_side, keep_side};
-pub use task::end_task;
+pub use task::{drop_task, end_task};

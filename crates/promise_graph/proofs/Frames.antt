@@ -36,6 +36,7 @@ lists_still m m' x lists numbers slots next h = record {
   live = λ s i. subst (λ (v : List ℕ). 0 < number_in v s) (sym numbers) (h.live s i);
   below = λ l q i. subst (λ (n : ℕ). q < n) (sym next) (h.below l q i);
   apart = h.apart;
+  once = h.once;
 }
 
 gone_case : (b : Bool) (m y : ℕ) → (if b then None else Some m) ≡ Some y → (b ≡ false) × (Some m ≡ Some y)
@@ -86,6 +87,7 @@ module _ (at new : ℕ → Option Node) (m m' : Marks) (n : ℕ) (k : AreNumbere
     live = λ s i. let p = h.live s i in let e = number_now s p.0 p.1 in let q = p.0 in omega (arith, q, e);
     below = λ l q i. subst (λ (c : ℕ). q < c) (sym next) (h.below l q i);
     apart = h.apart;
+    once = h.once;
   }
 
 module _ (at new : ℕ → Option Node) (m m' : Marks) (k : AreNumbered at m) (k' : AreNumbered new m') (comes : Comes at new m.next) where
@@ -103,6 +105,7 @@ module _ (at new : ℕ → Option Node) (m m' : Marks) (k : AreNumbered at m) (k
         live = λ s i. let p = h.live s i in let e = number s p in omega (arith, p, e);
         below = λ l q i. let low = h.below l q i in omega (arith, low, next);
         apart = h.apart;
+        once = h.once;
       }
 
 other_stays : (at : ℕ → Option Node) (m : Marks) (slot n s : ℕ) → AreNumbered at m → number_at at slot ≡ Some n → s ≢ slot → (o : Option ℕ) → number_at at s ≡ o → gone_number n o ≡ o
@@ -131,6 +134,7 @@ no_lists m x none = record {
   live = λ s i. absurd (false≢true (subst (λ (o : Option Name). IsSome o) (none.none s) i));
   below = λ l n i. absurd (false≢true i);
   apart = λ n a b i j. absurd (false≢true i);
+  once = λ l. tt;
 }
 
 find_case : (b c : Bool) (x : ℕ) (o r : Option ℕ) → b ≡ c → o ≡ r → cond b (Some x) o ≡ cond c (Some x) r

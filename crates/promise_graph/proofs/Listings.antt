@@ -13,7 +13,9 @@ use Rattle.kj_base.specs.declared.nodes.Node.{Node}
 use Rattle.kj_base.specs.declared.numbers.Name.{Name}
 use Rattle.kj_model.specs.Nodes.{is_in, dropped}
 use Rattle.linked_lists.specs.Lists.{members}
-use Rattle.promise_nodes.specs.Members.{IsNoMember, with_member, without_member, without_members}
+use Rattle.kj_model.proofs.Members.{in_one}
+use Rattle.kj_model.proofs.Once.{apart_join}
+use Rattle.promise_nodes.specs.Members.{AreEachOnce, IsNoMember, with_member, without_member, without_members}
 use Rattle.promise_graph.specs.declared.fields.Marks.{Marks}
 use Rattle.promise_graph.specs.declared.memberships.Memberships.{Memberships}
 use Rattle.promise_graph.specs.Slots.{number_at, IsAbsent}
@@ -144,6 +146,28 @@ some_list l (Some name) e = refl
 pub listed_slot : (x : Memberships) (slots l s : ℕ) → is_in s (slots_in x slots l) ≡ true → is_list l (list_at x s) ≡ true
 listed_slot x slots l s i = and_first (is_list l (list_at x s)) (is_in s (members x.links (bucket slots l))) (sym (in_filtered (λ t. is_list l (list_at x t)) s (members x.links (bucket slots l))) ∙ i)
 
+-- ---- lists without repeats
+
+once_case : (b : Bool) (x : ℕ) (ys : List ℕ) → is_in x ys ≡ false → AreEachOnce ys → AreEachOnce (cond b (x ∷ ys) ys)
+once_case true x ys out h = (out, h)
+once_case false x ys out h = h
+
+once_filtered : (p : ℕ → Bool) (xs : List ℕ) → AreEachOnce xs → AreEachOnce (filter p xs)
+once_filtered p [] h = tt
+once_filtered p (x ∷ xs) h = once_case (p x) x (filter p xs) (not_filtered x p xs h.0) (once_filtered p xs h.1)
+
+once_with : (b : Bool) (n : ℕ) (xs : List ℕ) → is_in n xs ≡ false → AreEachOnce xs → AreEachOnce (if b then xs ++ n ∷ [] else xs)
+once_with true n xs out h = apart_join xs (n ∷ []) h (refl, tt) (λ m i. subst (λ (j : ℕ). is_in j xs ≡ false) (in_one m n i) out)
+once_with false n xs out h = h
+
+once_without : (b : Bool) (n : ℕ) (xs : List ℕ) → AreEachOnce xs → AreEachOnce (if b then dropped n xs else xs)
+once_without true n xs h = once_filtered (λ m. not (m == n)) xs h
+once_without false n xs h = h
+
+once_cleared : (b : Bool) (xs : List ℕ) → AreEachOnce xs → AreEachOnce (if b then [] else xs)
+once_cleared true xs h = tt
+once_cleared false xs h = h
+
 -- ---- a graph's lists
 
 module _ (at : ℕ → Option Node) (m : Marks) (k : AreNumbered at m) (x : Memberships) (kept : AreListed x m.slots) (lists : ℕ → List ℕ) (h : HasLists m x lists) where
@@ -252,6 +276,7 @@ module _ (at : ℕ → Option Node) (m : Marks) (k : AreNumbered at m) (x : Memb
             | inr more ↦ h.apart q a b old more
           ]
         ];
+        once = λ l. once_with (l == list.0) n (lists l) (none l) (h.once l);
       }
 
       left_named : HasLeft x y m.slots slot → (l : ℕ) → dropped n (filter (is_given m.numbers.items) (reverse (lists l))) ≡ map (number_in m.numbers.items) (slots_in y m.slots l)
@@ -275,6 +300,7 @@ module _ (at : ℕ → Option Node) (m : Marks) (k : AreNumbered at m) (x : Memb
             (p.1, λ e. p.0 (one_slot at m k s slot n (number_there at m k s p.1 ∙ ap (λ (q : ℕ). Some q) e) live));
         below = h.below;
         apart = h.apart;
+        once = h.once;
       }
 
       -- a node left its list
@@ -294,6 +320,7 @@ module _ (at : ℕ → Option Node) (m : Marks) (k : AreNumbered at m) (x : Memb
         live = λ s i. (left_live j s i).1;
         below = λ l q i. h.below l q (in_without list n lists l q i);
         apart = λ q a b i t. h.apart q a b (in_without list n lists a q i) (in_without list n lists b q t);
+        once = λ l. once_without (l == list) n (lists l) (h.once l);
       }
 
   -- nothing changes where a node that leaves is no member, or doesn't live
@@ -311,6 +338,7 @@ module _ (at : ℕ → Option Node) (m : Marks) (k : AreNumbered at m) (x : Memb
     live = h.live;
     below = λ l q i. h.below l q (in_without list n lists l q i);
     apart = λ q a b i t. h.apart q a b (in_without list n lists a q i) (in_without list n lists b q t);
+    once = λ l. once_without (l == list) n (lists l) (h.once l);
   }
 
   absent_out : (n : ℕ) → IsAbsent at n → (l : ℕ) → is_in n (filter (is_given m.numbers.items) (reverse (lists l))) ≡ false
@@ -331,6 +359,7 @@ module _ (at : ℕ → Option Node) (m : Marks) (k : AreNumbered at m) (x : Memb
         (p, λ e. a s (number_there at m k s p ∙ ap (λ (q : ℕ). Some q) e));
     below = h.below;
     apart = h.apart;
+    once = h.once;
   }
 
   pub cleared_lists : (list : ℕ) (y : Memberships) → HasCleared x y m.slots list → HasLists m y (without_members list lists)
@@ -347,4 +376,5 @@ module _ (at : ℕ → Option Node) (m : Marks) (k : AreNumbered at m) (x : Memb
     live = λ s i. h.live s (j.lists s i);
     below = λ l q i. h.below l q (in_cleared list lists l q i);
     apart = λ q a b i t. h.apart q a b (in_cleared list lists a q i) (in_cleared list lists b q t);
+    once = λ l. once_cleared (l == list) (lists l) (h.once l);
   }

@@ -8,7 +8,7 @@ use Rattle.kj_base.specs.declared.nodes.Node.{Node}
 use Rattle.kj_model.specs.Nodes.{is_in}
 use Rattle.kj_model.specs.World.{World}
 use Rattle.promise_nodes.specs.Kept.{SameNodes}
-use Rattle.promise_nodes.specs.Members.{AreLists, lists_in}
+use Rattle.promise_nodes.specs.Members.{AreEachOnce, AreLists, lists_in}
 use Rattle.promise_graph.specs.declared.fields.Marks.{Marks}
 use Rattle.promise_graph.specs.declared.memberships.Memberships.{Memberships}
 use Rattle.promise_graph.specs.Members.{is_given}
@@ -23,6 +23,7 @@ same_lists m x lists others same h = record {
   live = h.live;
   below = λ list n i. h.below list n (sym (ap (is_in n) (same list)) ∙ i);
   apart = λ n list other i j. h.apart n list other (sym (ap (is_in n) (same list)) ∙ i) (sym (ap (is_in n) (same other)) ∙ j);
+  once = λ list. subst AreEachOnce (sym (same list)) (h.once list);
 }
 
 -- names don't matter to nodes

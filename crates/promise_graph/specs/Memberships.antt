@@ -3,7 +3,7 @@ use Rattle.std.specs.Prelude.{◌≡◌, ◌≢◌, ◌<◌, ◌≤◌, ℕ, ◌
 use Rattle.kj_base.specs.declared.numbers.Name.{Name}
 use Rattle.kj_model.specs.Nodes.{is_in, dropped}
 use Rattle.linked_lists.specs.Lists.{members}
-use Rattle.promise_nodes.specs.Members.{AreApart}
+use Rattle.promise_nodes.specs.Members.{AreApart, AreEachOnce}
 use Rattle.promise_graph.specs.declared.fields.Marks.{Marks}
 use Rattle.promise_graph.specs.declared.memberships.Memberships.{Memberships}
 use Rattle.promise_graph.specs.Members.{is_given}
@@ -68,6 +68,7 @@ pub record HasLists (m : Marks) (x : Memberships) (lists : ℕ → List ℕ) : T
   pub live : (s : ℕ) → IsSome (list_at x s) → 0 < number_in m.numbers.items s
   pub below : (list n : ℕ) → is_in n (lists list) ≡ true → n < m.next
   pub apart : AreApart lists
+  pub once : (list : ℕ) → AreEachOnce (lists list)
 
 -- the same, where the node of this number left its list, if it was in one
 pub record HasListsBut (n : ℕ) (m : Marks) (x : Memberships) (lists : ℕ → List ℕ) : Type 0 where
@@ -75,6 +76,7 @@ pub record HasListsBut (n : ℕ) (m : Marks) (x : Memberships) (lists : ℕ → 
   pub live : (s : ℕ) → IsSome (list_at x s) → (0 < number_in m.numbers.items s) × (number_in m.numbers.items s ≢ n)
   pub below : (list n : ℕ) → is_in n (lists list) ≡ true → n < m.next
   pub apart : AreApart lists
+  pub once : (list : ℕ) → AreEachOnce (lists list)
 
 -- the number of the node in a slot, if there is one
 abbrev pub numbered_in : List ℕ → Option ℕ → Option ℕ

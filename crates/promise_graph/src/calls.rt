@@ -190,6 +190,8 @@ impl<St: Store + Drop, Q: Queue + Drop> Nodes for Graph<St, Q> {
 
     ghost lists_apart = { λ g w st. st.lists.apart };
 
+    ghost members_once = { λ g w list st. st.lists.once list };
+
     ghost once = { λ g w st. st.nodes.stands.seen.nodes.once };
 
     ghost hubs_built = { λ g w n st h. st.nodes.hubs n h };

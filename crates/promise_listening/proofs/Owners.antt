@@ -1,5 +1,5 @@
 -- Who listens, from what one owner tells.
-use Rattle.std.proofs.Common.{◌≡◌, ℕ, zero, suc, ◌-◌, Option, None, Some, IsSome, Bool, true, false, refl, sym, ap, ◌∙◌, List}
+use Rattle.std.proofs.Common.{◌≡◌, ℕ, zero, suc, Option, None, Some, IsSome, Bool, true, false, refl, sym, ap, ◌∙◌}
 use Rattle.kj_base.specs.declared.nodes.Link.{Link}
 use Rattle.kj_model.specs.Nodes.{Form, Entry, form_at, has_event}
 use Rattle.kj_model.specs.World.{World}

@@ -1,5 +1,5 @@
 -- One Side of a run, and those behind it.
-use Rattle.std.proofs.Common.{◌≡◌, ℕ, suc, ◌-◌, Bool, true, false, refl, sym, ap, ◌∙◌, arith, ◌<◌, ◌||◌}
+use Rattle.std.proofs.Common.{◌≡◌, ℕ, suc, ◌-◌, Bool, true, false, sym, ap, ◌∙◌, arith, ◌<◌, ◌||◌}
 use Rattle.std.specs.List.{list_any}
 use Rattle.promise_nodes.specs.Shown.{run_from, next_number}
 

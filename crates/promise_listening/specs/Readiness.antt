@@ -1,6 +1,6 @@
 -- What one node tells of the readiness of a tree, and of who listens to it.
-use Rattle.std.specs.Prelude.{◌≡◌, ℕ, zero, suc, List, Option, None, Some, Bool, true, false}
-use Rattle.kj_model.specs.Nodes.{Form, Entry, form_at, owner_of}
+use Rattle.std.specs.Prelude.{◌≡◌, ℕ, List, Option, None, Some, Bool}
+use Rattle.kj_model.specs.Nodes.{Form, Entry, owner_of}
 use Rattle.kj_model.specs.World.{World}
 use Rattle.kj_model.specs.Listening.{ready_found, ready_tree, last_form, listener_over}
 use Rattle.promise_nodes.specs.Kept.{IsLive, IsEvent}

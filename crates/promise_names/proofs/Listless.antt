@@ -22,6 +22,6 @@ none_shown (PromiseCase root) = refl
 none_shown (CellCase cell) = refl
 none_shown (AskCase cell is_taken) = refl
 none_shown (HubCase hub) = refl
-none_shown (GroupCase error empty) = refl
+none_shown (GroupCase error tasks empty) = refl
 none_shown CancelerCase = refl
 none_shown (RequestCase request) = refl

@@ -1,11 +1,12 @@
 -- What a keeper of names says of what names hold.
-use Rattle.std.specs.Prelude.{◌≡◌, ℕ, ◌<◌, List, [], ◌∷◌, ◌++◌, ◌^◌, map, Option, None, Some, Bool, true, false}
+use Rattle.std.specs.Prelude.{◌≡◌, ℕ, ◌<◌, List, [], ◌∷◌, ◌++◌, ◌^◌, length, map, Option, None, Some, Bool, true, false}
 use Rattle.kj_base.specs.declared.numbers.Name.{Name}
 use Rattle.kj_base.specs.Commands.{step_of}
 use Rattle.kj_model.specs.Nodes.{renamed}
 use Rattle.kj_model.specs.Fire.{awaited_renamed, named_renamed}
 use Rattle.kj_model.specs.Free.{abandoned_as, ask_of, without_wrap}
-use Rattle.kj_model.specs.World.{World, Named, Awaited, Held, Promise, CellOf, AskCell, HubOf, Group, Canceler, RequestOf}
+use Rattle.kj_model.specs.Changes.{named}
+use Rattle.kj_model.specs.World.{World, Named, Awaited, Held, Promise, CellOf, AskCell, HubOf, Group, Canceler, RequestOf, held_at}
 pub use Rattle.promise_nodes.specs.Members.{members_of}
 use Rattle.promise_nodes.specs.Shown.{link_number}
 use Rattle.promise_names.specs.declared.names.Awaited.{Awaited as AwaitedCase}
@@ -20,13 +21,20 @@ held_shown members (PromiseCase root) = Promise root.number.0
 held_shown members (CellCase cell) = CellOf cell.number.0
 held_shown members (AskCase cell is_taken) = AskCell cell.number.0 is_taken
 held_shown members (HubCase hub) = HubOf hub.number.0
-held_shown members (GroupCase error empty) = Group (step_of error) members (link_number empty)
+held_shown members (GroupCase error tasks empty) = Group (step_of error) members (link_number empty)
 held_shown members CancelerCase = Canceler members
 held_shown members (RequestCase node) = RequestOf (link_number node)
 
--- a set or a canceler has some members, and else it is the same
+-- a set has as many tasks as it counts, and a canceler has no Wraps
+abbrev pub IsCounted : List ℕ → HeldCase → Type 0
+IsCounted members (GroupCase error tasks empty) = length members ≡ tasks
+IsCounted members CancelerCase = members ≡ []
+IsCounted members other = Unit {0}
+
+-- a set has some members, as many as it counts, and else it is the same
 pub record IsHeld (held : HeldCase) (seen : Held) : Type 0 where
   pub members : List ℕ
+  pub counted : IsCounted members held
   pub is : seen ≡ held_shown members held
 
 -- what a name holds is seen just where it is there
@@ -46,6 +54,15 @@ abbrev pub IsListless : Option Held → Type 0
 IsListless (Some (Group error tasks empty)) = ⊥
 IsListless (Some (Canceler wraps)) = ⊥
 IsListless other = Unit {0}
+
+-- the world in which this set has these tasks, and this cell waits until it is empty
+abbrev pub regrouped_in : Option Held → ℕ → List ℕ → Option ℕ → World → World
+regrouped_in (Some (Group error tasks old)) group members empty w = named group (Group error members empty) w
+regrouped_in other group members empty w = w
+
+-- the same of what the name holds
+abbrev pub regrouped : ℕ → List ℕ → Option ℕ → World → World
+regrouped group members empty w = regrouped_in (held_at group w.names) group members empty w
 
 -- the root that a name promises
 abbrev pub root_of : Option HeldCase → Option ℕ

@@ -4,11 +4,12 @@ ghost use Rattle.kj_model.specs.World.{World, Promise, RequestOf, held_at};
 ghost use Rattle.kj_model.specs.Nodes.{dropped};
 ghost use Rattle.kj_model.specs.Calls.{with_awaited};
 ghost use Rattle.kj_model.specs.Changes.{named, unnamed};
-ghost use Rattle.kj_model.specs.Fire.{group_of, without_left_over};
+ghost use Rattle.kj_model.specs.Effects.{wraps_of};
+ghost use Rattle.kj_model.specs.Fire.{without_left_over};
 ghost use Rattle.promise_nodes.specs.Shown.{link_number};
 ghost use Rattle.promise_nodes.specs.Kept.{SameNames, awaited_root};
 ghost use Rattle.promise_names.specs.Once.{AreOnce, AreRising};
-ghost use Rattle.promise_names.specs.Held.{held_shown, SeesHeld, IsListless, IsLoopsOwn, HasRoot, root_of, name_number, awaited_key, awaited_shown, first_name, root_renamed, roots_replaced, with_left_over, with_lost, stopped_world, left_world, members_of, AreApart, HasNoneListed};
+ghost use Rattle.promise_names.specs.Held.{held_shown, SeesHeld, IsListless, IsLoopsOwn, HasRoot, root_of, name_number, awaited_key, awaited_shown, first_name, root_renamed, roots_replaced, with_left_over, with_lost, stopped_world, left_world, regrouped, IsCounted, AreApart, HasNoneListed};
 ghost use Rattle.promise_names.specs.declared.names.Held.{Held};
 
 use kj_base::{Link, Name, StepId};
@@ -25,9 +26,10 @@ pub enum Held {
         is_taken: bool,
     },
     HubOf(Link),
-    /// A set: its error step, and the cell that waits until it is empty.
+    /// A set: its error step, how many tasks it has, and the cell that waits until it is empty.
     Group {
         error: Option<StepId>,
+        tasks: u64,
         empty: Option<Link>,
     },
     Canceler,
@@ -90,12 +92,15 @@ pub trait Names {
     fn first(&self) -> Option<Name>
         ensures { (w : World) → stands self.now w → name_number result ≡ first_name w.names };
 
-    /// A name holds this now: a name that is there, or for which there is room. A set has no tasks, and a canceler no Wraps.
+    /// A name holds this now: a name that is there, or for which there is room. What was a set or a canceler stays one.
     fn set(&mut self, name: Name, held: Held)
         requires room { count self.old < limit self.old }
         requires kind { IsLoopsOwn held }
-        ensures stands { (w : World) → stands self.old w → IsListless (held_at name.0 w.names)
-            → stands self.new (named name.0 (held_shown [] held) w) }
+        ensures stands { (w : World) (members : List ℕ)
+            → stands self.old w
+            → IsListless (held_at name.0 w.names)
+            → IsCounted members held
+            → stands self.new (named name.0 (held_shown members held) w) }
         ensures root { HasRoot (roots self.old) (roots self.new) name.0 (root_of (Some held)) }
         ensures few { count self.new ≤ count self.old + 1 }
         ensures limit { limit self.new ≡ limit self.old }
@@ -107,6 +112,17 @@ pub trait Names {
         ensures root { HasRoot (roots self.old) (roots self.new) name.0 None }
         ensures gone { IsSome (roots self.old name.0) → count self.new + 1 ≡ count self.old }
         ensures few { count self.new ≤ count self.old }
+        ensures limit { limit self.new ≡ limit self.old }
+        ensures over { over self.new ≡ over self.old };
+
+    /// A set has so many tasks now, and this cell waits until it is empty.
+    fn regroup(&mut self, group: Name, tasks: u64, empty: Option<Link>)
+        ensures stands { (w : World) (members : List ℕ)
+            → stands self.old w
+            → length members ≡ tasks
+            → stands self.new (regrouped group.0 members (link_number empty) w) }
+        ensures roots { (name : ℕ) → roots self.new name ≡ roots self.old name }
+        ensures count { count self.new ≡ count self.old }
         ensures limit { limit self.new ≡ limit self.old }
         ensures over { over self.new ≡ over self.old };
 
@@ -233,11 +249,7 @@ pub trait Names {
     ghost no_requests: { (names : Self) (w : World) (name : ℕ) (node : Option ℕ) → stands names w
         → held_at name w.names ≡ Some (RequestOf node) → ⊥ };
 
-    /// No set has a task, and no canceler a Wrap.
-    ghost no_members: { (names : Self) (w : World) (name : ℕ) → stands names w
-        → members_of (held_at name w.names) ≡ [] };
-
-    /// No set has a task.
-    ghost no_tasks: { (names : Self) (w : World) (n : ℕ) → stands names w
-        → group_of n w.names ≡ None };
+    /// No canceler has a Wrap.
+    ghost no_wraps: { (names : Self) (w : World) (name : ℕ) → stands names w
+        → wraps_of (held_at name w.names) ≡ [] };
 }

@@ -2,6 +2,7 @@
 use Rattle.std.specs.Prelude.{◌≡◌, ℕ, List, [], ◌∷◌, ◌++◌, Option, None, Some, true, false, find, reverse, ◌==◌, if◌then◌else◌}
 use Rattle.kj_base.specs.declared.numbers.Name.{Name}
 use Rattle.kj_model.specs.Nodes.{is_in, dropped}
+pub use Rattle.kj_model.specs.Trees.{AreApart as AreEachOnce}
 use Rattle.kj_model.specs.World.{World, Held, Group, Canceler, held_at}
 use Rattle.promise_nodes.specs.Kept.{is_live}
 

@@ -12,7 +12,7 @@ ghost use Rattle.kj_model.specs.Effects.{with_branch_in, with_detached, disarmed
 ghost use Rattle.kj_model.specs.Calls.{rewound_world, taken_world, hubs_of};
 ghost use Rattle.promise_nodes.specs.Shown.{shown, link_number, Sees, SeesOwner, way_of};
 ghost use Rattle.promise_nodes.specs.Once.{AreOnce};
-ghost use Rattle.promise_nodes.specs.Members.{AreApart, AreLists, IsListOf, IsNoMember, lists_in, newest_member, with_member, without_member, without_members};
+ghost use Rattle.promise_nodes.specs.Members.{AreApart, AreEachOnce, AreLists, IsListOf, IsNoMember, lists_in, newest_member, with_member, without_member, without_members};
 ghost use Rattle.promise_nodes.specs.Kept.{SameNodes, IsLive, newest_task, without_detached, IsEvent, IsBranch, IsPart, IsReplaceable, KeepsKind, is_unreferenced, awaited_root, rows_left, OnlyFalls, OnlyRises, RisesIn, IsPlain, ShowsPlain, AreRoots, AreBuilt, AddsNone, AreRowsBuilt, put_form, rows_seen, tree_replaced, AreUnmarked, IsMarked, Same, SameRows};
 
 use kj_base::{Form, Link, Name};
@@ -467,6 +467,11 @@ pub trait Nodes {
     ghost lists_apart: { (nodes : Self) (w : World)
         → stands nodes w
         → AreApart (lists_in w) };
+
+    /// No member stands twice in its list.
+    ghost members_once: { (nodes : Self) (w : World) (list : ℕ)
+        → stands nodes w
+        → AreEachOnce (lists_in w list) };
 
     /// No node stands twice.
     ghost once: { (nodes : Self) (w : World) → stands nodes w → AreOnce w.nodes };

@@ -11,7 +11,7 @@ use Rattle.promise_script.specs.declared.reader.ReadRefused.TheVariants.{Bad, No
 use Rattle.promise_script.specs.ScriptText.{first_word, lines_of}
 use Rattle.promise_script.specs.Decode.{and_then, text_read}
 use Rattle.promise_script.specs.Assembly.{Part, Reading, stood, part_closed, line_stood, unbuilt_command, refused_at, is_inside, ended, went_on, before_lines, script_read}
-use Rattle.promise_script.specs.Scripts.{IsScript, IsScriptText, BeginsScript, IsFaulty, IsUnclosed, unbuilt_commands, is_among, IsUnbuilt, IsBadLine, IsNotBuiltLine, IsReadAs}
+use Rattle.promise_script.specs.Scripts.{IsScript, IsScriptText, BeginsScript, IsFaulty, IsUnclosed, unbuilt_commands, is_among, IsBadLine, IsNotBuiltLine, IsReadAs}
 use Rattle.promise_script.proofs.Folds.{lines_stood, read_behind, none_behind, stood_more}
 use Rattle.promise_script.proofs.Pieces.{script_complete}
 use Rattle.promise_script.proofs.Sounds.{script_sound}
@@ -153,19 +153,18 @@ open_script lines q stands inside s is =
 
 -- ---- words that are to be built
 
-chained : (a b c d e f : Bool) → (a || b || c || d || e || f)
-    ≡ cond a true (cond b true (cond c true (cond d true (cond e true (cond f true false)))))
-chained true b c d e f = refl
-chained false true c d e f = refl
-chained false false true d e f = refl
-chained false false false true e f = refl
-chained false false false false true f = refl
-chained false false false false false true = refl
-chained false false false false false false = refl
+chained : (a b c d e : Bool) → (a || b || c || d || e)
+    ≡ cond a true (cond b true (cond c true (cond d true (cond e true false))))
+chained true b c d e = refl
+chained false true c d e = refl
+chained false false true d e = refl
+chained false false false true e = refl
+chained false false false false true = refl
+chained false false false false false = refl
 
 unbuilt_same : (w : List ℕ) → unbuilt_command w ≡ is_among unbuilt_commands w
 unbuilt_same w =
-    chained (bytes_eq w (codes "add")) (bytes_eq w (codes "wrap")) (bytes_eq w (codes "ask")) (bytes_eq w (codes "begin")) (bytes_eq w (codes "stop")) (bytes_eq w (codes "reply"))
+    chained (bytes_eq w (codes "wrap")) (bytes_eq w (codes "ask")) (bytes_eq w (codes "begin")) (bytes_eq w (codes "stop")) (bytes_eq w (codes "reply"))
 
 -- ---- both ways
 

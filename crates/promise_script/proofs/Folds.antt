@@ -3,7 +3,7 @@ use Rattle.std.proofs.Common.{◌≡◌, ℕ, ◌+◌, List, [], ◌∷◌, ◌+
 use Rattle.promise_commands.specs.Script.{Script}
 use Rattle.promise_script.specs.declared.meaning.Meaning.{Meaning}
 use Rattle.promise_script.specs.Decode.{and_then}
-use Rattle.promise_script.specs.Assembly.{Reading, stood, line_stood, went_on, refused_at, is_inside, script_read}
+use Rattle.promise_script.specs.Assembly.{Reading, stood, line_stood, went_on, refused_at, script_read}
 use Rattle.promise_script.specs.Scripts.{MeanAll}
 use Rattle.promise_script.proofs.Meanings.{text_complete}
 

@@ -12,7 +12,7 @@ use Rattle.kj_base.specs.declared.numbers.Limits.{Limits}
 use Rattle.kj_base.specs.declared.outcomes.Exception.{Exception}
 use Rattle.kj_base.specs.declared.endings.Ending.TheVariants.{Value, Throw, Promise, Input}
 use Rattle.promise_commands.specs.declared.command.Command.{Command}
-use Rattle.promise_commands.specs.declared.command.Command.TheVariants.{Now, Broken, Later, Last, Pair, Then, Chain, Eager, Fork, Branch, Race, All, Fast, Fulfil, Reject, DropCell, Detach, NewSet, OnEmpty, Clear, NewCanceler, Cancel, Drop}
+use Rattle.promise_commands.specs.declared.command.Command.TheVariants.{Now, Broken, Later, Last, Pair, Then, Chain, Eager, Fork, Branch, Race, All, Fast, Fulfil, Reject, DropCell, Detach, NewSet, Add, OnEmpty, Clear, NewCanceler, Cancel, Drop}
 use Rattle.promise_script.specs.declared.meaning.Meaning.{Meaning}
 use Rattle.promise_script.specs.declared.meaning.Meaning.TheVariants.{Nothing, Limits as LimitsLine, Do, Turn, Run, Wait, Step, Close}
 use Rattle.promise_script.specs.declared.verbs.Maker.{Maker}
@@ -20,7 +20,7 @@ use Rattle.promise_script.specs.declared.verbs.Maker.TheVariants.{Now as NowWord
 use Rattle.promise_script.specs.declared.verbs.Combiner.{Combiner}
 use Rattle.promise_script.specs.declared.verbs.Combiner.TheVariants.{Then as ThenWord, Chain as ChainWord, Eager as EagerWord, Fork as ForkWord, Branch as BranchWord, Race as RaceWord, All as AllWord, Fast as FastWord}
 use Rattle.promise_script.specs.declared.verbs.User.{User}
-use Rattle.promise_script.specs.declared.verbs.User.TheVariants.{Fulfil as FulfilWord, Reject as RejectWord, DropCell as DropCellWord, Detach as DetachWord, Set as SetWord, Clear as ClearWord, Canceler as CancelerWord, Cancel as CancelWord, Drop as DropWord}
+use Rattle.promise_script.specs.declared.verbs.User.TheVariants.{Fulfil as FulfilWord, Reject as RejectWord, DropCell as DropCellWord, Detach as DetachWord, Set as SetWord, Add as AddWord, Clear as ClearWord, Canceler as CancelerWord, Cancel as CancelWord, Drop as DropWord}
 use Rattle.promise_script.specs.declared.verbs.Verb.{Verb}
 use Rattle.promise_script.specs.declared.verbs.Verb.TheVariants.{Make, Combine, Use, Limits as LimitsWord, Turn as TurnWord, Run as RunWord, Wait as WaitWord, Step as StepWord, Value as ValueWord, Throw as ThrowWord, Promise as PromiseWord, Input as InputWord}
 use Rattle.promise_script.specs.ScriptText.{name_word, exception_words, command_words, meaning_words, NameFits, StepFits, WordsFit, NamesFit, CommandFits, LimitsFit, MeaningFits, words_of, is_remark, Spells, Means}
@@ -60,13 +60,14 @@ user_text RejectWord = codes "reject"
 user_text DropCellWord = codes "dropcell"
 user_text DetachWord = codes "detach"
 user_text SetWord = codes "set"
+user_text AddWord = codes "add"
 user_text ClearWord = codes "clear"
 user_text CancelerWord = codes "canceler"
 user_text CancelWord = codes "cancel"
 user_text DropWord = codes "drop"
 
 user_sound : (w : List ℕ) (v : User) → user_read w ≡ Some v → w ≡ user_text v
-user_sound w v e = first_sound user_text w (FulfilWord ∷ RejectWord ∷ DropCellWord ∷ DetachWord ∷ SetWord ∷ ClearWord ∷ CancelerWord ∷ CancelWord ∷ DropWord ∷ []) v e
+user_sound w v e = first_sound user_text w (FulfilWord ∷ RejectWord ∷ DropCellWord ∷ DetachWord ∷ SetWord ∷ AddWord ∷ ClearWord ∷ CancelerWord ∷ CancelWord ∷ DropWord ∷ []) v e
 
 abbrev verb_text : Verb → List ℕ
 verb_text (Make v) = maker_text v
@@ -198,6 +199,7 @@ used_sound RejectWord ps c e = command_from (name_and exception_read) (NameAndFi
 used_sound DropCellWord ps c e = command_from (one_name) (NameFits) (one_words) (λ (p : Name). DropCell p) (codes "dropcell") ps c one_sound (λ p fits. fits) (λ p. refl) e
 used_sound DetachWord ps c e = command_from (one_name) (NameFits) (one_words) (λ (p : Name). Detach p) (codes "detach") ps c one_sound (λ p fits. fits) (λ p. refl) e
 used_sound SetWord ps c e = command_from (name_and one_step) (NameAndFits StepFits) (name_and_words one_step_words) (λ (p : Name × Option StepId). NewSet p.0 p.1) (codes "set") ps c grouped_sound (λ p fits. fits) (λ p. refl) e
+used_sound AddWord ps c e = command_from (two_names) (TwoNamesFit) (two_names_words) (λ (p : Name × Name). Add p.0 p.1) (codes "add") ps c two_sound (λ p fits. fits) (λ p. refl) e
 used_sound ClearWord ps c e = command_from (one_name) (NameFits) (one_words) (λ (p : Name). Clear p) (codes "clear") ps c one_sound (λ p fits. fits) (λ p. refl) e
 used_sound CancelerWord ps c e = command_from (one_name) (NameFits) (one_words) (λ (p : Name). NewCanceler p) (codes "canceler") ps c one_sound (λ p fits. fits) (λ p. refl) e
 used_sound CancelWord ps c e = command_from (one_name) (NameFits) (one_words) (λ (p : Name). Cancel p) (codes "cancel") ps c one_sound (λ p fits. fits) (λ p. refl) e
@@ -426,6 +428,7 @@ command_letter (Reject n x) = lit< tt
 command_letter (DropCell n) = lit< tt
 command_letter (Detach n) = lit< tt
 command_letter (NewSet n s) = lit< tt
+command_letter (Add n s) = lit< tt
 command_letter (OnEmpty n s) = lit< tt
 command_letter (Clear n) = lit< tt
 command_letter (NewCanceler n) = lit< tt
@@ -477,6 +480,7 @@ command_back (Reject n x) fits = ap (λ (o : Option (Name × Exception)). given 
 command_back (DropCell n) fits = ap (λ (o : Option (Name)). given Do (given (λ (p : Name). DropCell p) o)) (name_complete n fits)
 command_back (Detach n) fits = ap (λ (o : Option (Name)). given Do (given (λ (p : Name). Detach p) o)) (name_complete n fits)
 command_back (NewSet n s) fits = ap (λ (o : Option (Name × Option StepId)). given Do (given (λ (p : Name × Option StepId). NewSet p.0 p.1) o)) (grouped_complete (n, s) fits)
+command_back (Add n s) fits = ap (λ (o : Option (Name × Name)). given Do (given (λ (p : Name × Name). Add p.0 p.1) o)) (two_names_complete (n, s) fits)
 command_back (OnEmpty n s) fits = ap (λ (o : Option (Name × Name)). given Do (given (λ (p : Name × Name). OnEmpty p.0 p.1) o)) (two_names_complete (n, s) fits)
 command_back (Clear n) fits = ap (λ (o : Option (Name)). given Do (given (λ (p : Name). Clear p) o)) (name_complete n fits)
 command_back (NewCanceler n) fits = ap (λ (o : Option (Name)). given Do (given (λ (p : Name). NewCanceler p) o)) (name_complete n fits)
@@ -543,6 +547,7 @@ command_few (Reject n x) fits = lit≤ tt
 command_few (DropCell n) fits = lit≤ tt
 command_few (Detach n) fits = lit≤ tt
 command_few (NewSet n s) fits = lit≤ tt
+command_few (Add n s) fits = lit≤ tt
 command_few (OnEmpty n s) fits = lit≤ tt
 command_few (Clear n) fits = lit≤ tt
 command_few (NewCanceler n) fits = lit≤ tt

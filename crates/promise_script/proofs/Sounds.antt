@@ -17,7 +17,7 @@ use Rattle.promise_script.specs.declared.meaning.Meaning.TheVariants.{Nothing, L
 use Rattle.promise_commands.specs.declared.action.TheConstants.{MAX_COMMANDS}
 use Rattle.promise_script.specs.ScriptText.{Means}
 use Rattle.promise_script.specs.Decode.{and_then, text_read}
-use Rattle.promise_script.specs.Assembly.{Part, stood, is_inside, refused_at, went_on, ended, before_lines, script_read}
+use Rattle.promise_script.specs.Assembly.{Part, stood, refused_at, went_on, ended, before_lines, script_read}
 use Rattle.promise_script.specs.Scripts.{Piece, Remark, Stands, Bodied, line_meaning, body_meanings, piece_meanings, limits_meanings, commands_of, body_with, piece_bodies, lines_in, PiecesFit, MeanAll, IsScript}
 use Rattle.promise_script.proofs.Meanings.{text_sound}
 use Rattle.promise_script.proofs.Pieces.{reading, part_with}

@@ -1,5 +1,5 @@
 -- How a reader puts lines together. `ScriptText` says which lines are a script; the proofs tie the two.
-use Rattle.std.specs.Prelude.{ℕ, ◌+◌, List, [], ◌∷◌, ◌++◌, Option, None, Some, Bool, true, false, cond, not, ◌&&◌, ◌||◌, bytes_eq, codes, length, nat_lt, Result, Ok, Err}
+use Rattle.std.specs.Prelude.{ℕ, ◌+◌, List, [], ◌∷◌, ◌++◌, Option, None, Some, Bool, true, false, cond, ◌||◌, bytes_eq, codes, length, nat_lt, Result, Ok, Err}
 use Rattle.kj_base.specs.declared.numbers.StepId.{StepId}
 use Rattle.kj_base.specs.declared.numbers.Limits.{Limits}
 use Rattle.kj_base.specs.declared.endings.Ending.{Ending}
@@ -96,7 +96,7 @@ line_stood n r text = and_then (λ m. stood n m r) (text_read text)
 -- a first word of commands that aren't built yet
 abbrev pub unbuilt_command : List ℕ → Bool
 unbuilt_command w =
-    bytes_eq w (codes "add") || bytes_eq w (codes "wrap") || bytes_eq w (codes "ask") || bytes_eq w (codes "begin")
+    bytes_eq w (codes "wrap") || bytes_eq w (codes "ask") || bytes_eq w (codes "begin")
     || bytes_eq w (codes "stop") || bytes_eq w (codes "reply")
 
 -- why a line is refused

@@ -13,7 +13,7 @@ use Rattle.kj_base.specs.declared.outcomes.Kind.{Kind}
 use Rattle.kj_base.specs.declared.outcomes.Kind.TheVariants.{Failed, Overloaded, Disconnected, Unimplemented}
 use Rattle.kj_base.specs.declared.endings.Ending.TheVariants.{Value, Throw, Promise, Input}
 use Rattle.promise_commands.specs.declared.command.Command.{Command}
-use Rattle.promise_commands.specs.declared.command.Command.TheVariants.{Now, Broken, Later, Last, Pair, Then, Chain, Eager, Fork, Branch, Race, All, Fast, Fulfil, Reject, DropCell, Detach, NewSet, OnEmpty, Clear, NewCanceler, Cancel, Drop}
+use Rattle.promise_commands.specs.declared.command.Command.TheVariants.{Now, Broken, Later, Last, Pair, Then, Chain, Eager, Fork, Branch, Race, All, Fast, Fulfil, Reject, DropCell, Detach, NewSet, Add, OnEmpty, Clear, NewCanceler, Cancel, Drop}
 use Rattle.promise_script.specs.declared.meaning.Meaning.{Meaning}
 use Rattle.promise_script.specs.declared.meaning.Meaning.TheVariants.{Nothing, Limits as LimitsLine, Do, Turn, Run, Wait, Step, Close}
 use Rattle.promise_script.specs.declared.verbs.Maker.{Maker}
@@ -21,7 +21,7 @@ use Rattle.promise_script.specs.declared.verbs.Maker.TheVariants.{Now as NowWord
 use Rattle.promise_script.specs.declared.verbs.Combiner.{Combiner}
 use Rattle.promise_script.specs.declared.verbs.Combiner.TheVariants.{Then as ThenWord, Chain as ChainWord, Eager as EagerWord, Fork as ForkWord, Branch as BranchWord, Race as RaceWord, All as AllWord, Fast as FastWord}
 use Rattle.promise_script.specs.declared.verbs.User.{User}
-use Rattle.promise_script.specs.declared.verbs.User.TheVariants.{Fulfil as FulfilWord, Reject as RejectWord, DropCell as DropCellWord, Detach as DetachWord, Set as SetWord, Clear as ClearWord, Canceler as CancelerWord, Cancel as CancelWord, Drop as DropWord}
+use Rattle.promise_script.specs.declared.verbs.User.TheVariants.{Fulfil as FulfilWord, Reject as RejectWord, DropCell as DropCellWord, Detach as DetachWord, Set as SetWord, Add as AddWord, Clear as ClearWord, Canceler as CancelerWord, Cancel as CancelWord, Drop as DropWord}
 use Rattle.promise_script.specs.declared.verbs.Verb.{Verb}
 use Rattle.promise_script.specs.declared.verbs.Verb.TheVariants.{Make, Combine, Use, Limits as LimitsWord, Turn as TurnWord, Run as RunWord, Wait as WaitWord, Step as StepWord, Value as ValueWord, Throw as ThrowWord, Promise as PromiseWord, Input as InputWord}
 use Rattle.promise_script.specs.ScriptText.{words_of, is_remark}
@@ -145,10 +145,11 @@ user_read w =
     cond (bytes_eq w (codes "dropcell")) (Some DropCellWord) (
     cond (bytes_eq w (codes "detach")) (Some DetachWord) (
     cond (bytes_eq w (codes "set")) (Some SetWord) (
+    cond (bytes_eq w (codes "add")) (Some AddWord) (
     cond (bytes_eq w (codes "clear")) (Some ClearWord) (
     cond (bytes_eq w (codes "canceler")) (Some CancelerWord) (
     cond (bytes_eq w (codes "cancel")) (Some CancelWord) (
-    cond (bytes_eq w (codes "drop")) (Some DropWord) (None)))))))))
+    cond (bytes_eq w (codes "drop")) (Some DropWord) (None))))))))))
 
 abbrev pub other_read : List ℕ → Option Verb
 other_read w =
@@ -191,6 +192,7 @@ used_by RejectWord ps = given (λ p. Reject p.0 p.1) (name_and exception_read ps
 used_by DropCellWord ps = given DropCell (one_name ps)
 used_by DetachWord ps = given Detach (one_name ps)
 used_by SetWord ps = given (λ p. NewSet p.0 p.1) (name_and one_step ps)
+used_by AddWord ps = given (λ p. Add p.0 p.1) (two_names ps)
 used_by ClearWord ps = given Clear (one_name ps)
 used_by CancelerWord ps = given NewCanceler (one_name ps)
 used_by CancelWord ps = given Cancel (one_name ps)

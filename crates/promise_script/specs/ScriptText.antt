@@ -12,7 +12,7 @@ use Rattle.kj_base.specs.declared.endings.Ending.{Ending}
 use Rattle.kj_base.specs.declared.endings.Ending.TheVariants.{Value, Throw, Promise, Input}
 use Rattle.kj_model.specs.Text.{kind_text}
 use Rattle.promise_commands.specs.declared.command.Command.{Command}
-use Rattle.promise_commands.specs.declared.command.Command.TheVariants.{Now, Broken, Later, Last, Pair, Then, Chain, Eager, Fork, Branch, Race, All, Fast, Fulfil, Reject, DropCell, Detach, NewSet, OnEmpty, Clear, NewCanceler, Cancel, Drop}
+use Rattle.promise_commands.specs.declared.command.Command.TheVariants.{Now, Broken, Later, Last, Pair, Then, Chain, Eager, Fork, Branch, Race, All, Fast, Fulfil, Reject, DropCell, Detach, NewSet, Add, OnEmpty, Clear, NewCanceler, Cancel, Drop}
 use Rattle.promise_script.specs.declared.meaning.Meaning.{Meaning}
 use Rattle.promise_script.specs.declared.meaning.Meaning.TheVariants.{Nothing, Limits as LimitsLine, Do, Turn, Run, Wait, Step, Close}
 
@@ -51,6 +51,7 @@ command_words (Reject cell exception) = codes "reject" ∷ name_word cell ∷ ex
 command_words (DropCell cell) = codes "dropcell" ∷ name_word cell ∷ []
 command_words (Detach source) = codes "detach" ∷ name_word source ∷ []
 command_words (NewSet group error) = codes "set" ∷ name_word group ∷ step_word error ∷ []
+command_words (Add group source) = codes "add" ∷ name_word group ∷ name_word source ∷ []
 command_words (OnEmpty name group) = codes "empty" ∷ name_word name ∷ name_word group ∷ []
 command_words (Clear group) = codes "clear" ∷ name_word group ∷ []
 command_words (NewCanceler canceler) = codes "canceler" ∷ name_word canceler ∷ []
@@ -109,6 +110,7 @@ CommandFits (Reject cell exception) = NameFits cell × (exception.code < 2 ^ 32)
 CommandFits (DropCell cell) = NameFits cell
 CommandFits (Detach source) = NameFits source
 CommandFits (NewSet group error) = NameFits group × StepFits error
+CommandFits (Add group source) = NameFits group × NameFits source
 CommandFits (OnEmpty name group) = NameFits name × NameFits group
 CommandFits (Clear group) = NameFits group
 CommandFits (NewCanceler canceler) = NameFits canceler

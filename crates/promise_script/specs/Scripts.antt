@@ -149,7 +149,7 @@ pub record IsUnclosed (lines : List (List ℕ)) (number : ℕ) : Type 0 where
 -- the first words of commands that aren't built yet
 abbrev pub unbuilt_commands : List (List ℕ)
 unbuilt_commands =
-    codes "add" ∷ codes "wrap" ∷ codes "ask" ∷ codes "begin" ∷ codes "stop" ∷ codes "reply" ∷ []
+    codes "wrap" ∷ codes "ask" ∷ codes "begin" ∷ codes "stop" ∷ codes "reply" ∷ []
 
 -- whether the word is one of these
 abbrev pub is_among : List (List ℕ) → List ℕ → Bool

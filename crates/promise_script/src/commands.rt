@@ -124,6 +124,10 @@ pub fn read_used(user: User, parts: &[&[u8]]) -> Option<Command>
             let (group, error) = read_grouped(parts)?;
             Some(Command::NewSet { group, error })
         }
+        User::Add => {
+            let (group, source) = read_two_names(parts)?;
+            Some(Command::Add { group, source })
+        }
         User::Clear => {
             let group = read_one_name(parts)?;
             Some(Command::Clear { group })

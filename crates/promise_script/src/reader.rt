@@ -40,8 +40,7 @@ impl From<NoMemory> for ReadRefused {
 fn is_unbuilt_command(word: &[u8]) -> bool
     ensures { result ≡ unbuilt_command word.now }
 {
-    word == b"add".as_slice()
-        || word == b"wrap".as_slice()
+    word == b"wrap".as_slice()
         || word == b"ask".as_slice()
         || word == b"begin".as_slice()
         || word == b"stop".as_slice()

@@ -88,7 +88,7 @@ fn tells_the_bad_line(rt: HostRuntime) -> Result<(), Fail> {
 #[test]
 fn tells_what_is_not_built(rt: HostRuntime) -> Result<(), Fail> {
     for word in [
-        b"add".as_slice(),
+        b"wrap".as_slice(),
         b"wrap x",
         b"ask 1 2 3 4",
         b"begin 1 2",
@@ -98,9 +98,10 @@ fn tells_what_is_not_built(rt: HostRuntime) -> Result<(), Fail> {
         assert!(rt; fault(rt.alloc(), word) == not_built(1));
     }
     for (text, refused) in [
-        (b"turn\nadd 1 2\nbogus\n".as_slice(), not_built(2)),
-        (b"step 1\nadd 1 2\ninput\n", not_built(2)),
-        (b"step 1\nadd 1 2", not_built(2)),
+        (b"turn\nwrap 1 2\nbogus\n".as_slice(), not_built(2)),
+        (b"step 1\nwrap 1 2\ninput\n", not_built(2)),
+        (b"step 1\nwrap 1 2", not_built(2)),
+        (b"add\n", bad(1)),
         (b"step 1\ninput\nwait 1\n", bad(3)),
         (b"step 1\nwait 1 2\ninput\n", bad(2)),
         (b"sets 1\n", bad(1)),

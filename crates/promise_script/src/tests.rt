@@ -38,6 +38,7 @@ fn reads_each_line(rt: HostRuntime) -> Result<(), Fail> {
         b"detach 1",
         b"set 1 -",
         b"set 1 4294967295",
+        b"add 1 2",
         b"empty 1 2",
         b"clear 1",
         b"canceler 1",
@@ -95,9 +96,11 @@ fn reads_nothing_else(rt: HostRuntime) -> Result<(), Fail> {
         b"wait 1 1000001",
         b"wait - 1",
         b"wait 1 2 3",
-        b"add 1 2",
         b"set 1",
         b"set - 1",
+        b"add 1",
+        b"add 1 -",
+        b"add 1 2 3",
         b"empty 1",
         b"clear",
         b"canceler -",
@@ -146,6 +149,11 @@ fn tells_the_parts_of_commands(rt: HostRuntime) -> Result<(), Fail> {
         Some(Meaning::Do(Command::Fulfil { cell, value })) => {
             cell == Name(8) && value.as_slice() == [1, 2].as_slice()
         }
+        _ => false,
+    };
+    assert!(rt; found);
+    let found = match read_line(rt.alloc(), b"add 8 6")? {
+        Some(Meaning::Do(Command::Add { group, source })) => group == Name(8) && source == Name(6),
         _ => false,
     };
     assert!(rt; found);

@@ -1,6 +1,6 @@
 //! Calls on the layers over the plain keepers. What they answer stands among what they tell, so that a test is a list of
 //! calls and a list of what was told. Each layer is called in one place, whose clauses a test never sees.
-ghost use Rattle.std.specs.Prelude.{◌≡◌, ◌≤◌, [], length};
+ghost use Rattle.std.specs.Prelude.{◌≡◌, ◌≤◌, length};
 ghost use Rattle.name_table.specs.Table.{trees};
 
 use crate::tables::{TableEvaluator, evaluator_over_tables};
@@ -85,8 +85,8 @@ fn evaluate_link(over: &mut TableEvaluator, link: Link, steps: &mut Teller)
 
 /// A call is made. A name that promises nothing isn't evaluated.
 pub fn make(over: &mut TableEvaluator, call: &Call, steps: &mut Teller)
-    requires none_over { trees over.old.names.over ≡ [] }
-    ensures none_over { trees over.new.names.over ≡ [] }
+    requires few { length (trees over.old.names.over) ≤ 1 }
+    ensures few { length (trees over.new.names.over) ≤ 1 }
 {
     match call {
         Call::Apply(command) => {
@@ -114,8 +114,8 @@ pub fn make(over: &mut TableEvaluator, call: &Call, steps: &mut Teller)
 
 /// These calls are made in turn.
 pub fn make_all(over: &mut TableEvaluator, calls: &[Call], steps: &mut Teller)
-    requires none_over { trees over.old.names.over ≡ [] }
-    ensures none_over { trees over.new.names.over ≡ [] }
+    requires few { length (trees over.old.names.over) ≤ 1 }
+    ensures few { length (trees over.new.names.over) ≤ 1 }
 {
     for call in calls {
         make(over, call, steps);

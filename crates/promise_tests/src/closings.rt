@@ -67,6 +67,7 @@ fn a_cell_a_set_and_a_canceler_free_nothing(rt: HostRuntime) -> Result<(), Fail>
     let mut steps = Teller::new(rt.alloc(), ROOM)?;
     let group = Held::Group {
         error: None,
+        tasks: 0,
         empty: None,
     };
     assert!(rt; hold(&mut over, 2, Held::Canceler));

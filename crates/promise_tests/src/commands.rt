@@ -99,3 +99,24 @@ pub fn detach(source: u32) -> Command {
         source: Name(source),
     }
 }
+
+pub fn new_set(group: u32, error: Option<StepId>) -> Command {
+    Command::NewSet {
+        group: Name(group),
+        error,
+    }
+}
+
+pub fn add(group: u32, source: u32) -> Command {
+    Command::Add {
+        group: Name(group),
+        source: Name(source),
+    }
+}
+
+pub fn on_empty(name: u32, group: u32) -> Command {
+    Command::OnEmpty {
+        name: Name(name),
+        group: Name(group),
+    }
+}

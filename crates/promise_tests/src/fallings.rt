@@ -1,11 +1,11 @@
 //! Which nodes would go with trees, worked out by hand.
 use crate::calls::{Call, LIMITS, ROOM, make_all};
-use crate::commands::{branch, fork, later, race, then};
+use crate::commands::{add, branch, fork, later, new_set, race, then};
 use crate::tables::{TableEvaluator, evaluator_over_tables};
 use crate::teller::Teller;
-use kj_base::{Content, Form, Link, NodeId, Slot, StepId};
+use kj_base::{Content, Form, Link, Name, NodeId, Slot, StepId};
 use promise_nodes::Nodes;
-use promise_walks::would_free;
+use promise_walks::{would_free, would_free_members};
 use std::test::Fail;
 
 // A step that isn't run in these tests.
@@ -13,6 +13,9 @@ const STEP: StepId = StepId(9);
 
 // A number that no node has in these tests.
 const NOBODY: u64 = 12;
+
+// A set, whose tasks are the members of a list of this name.
+const SET: Name = Name(9);
 
 // The root of a tree, and the numbers of the nodes that would go with it.
 type Row<'a> = (u64, &'a [u64]);
@@ -131,5 +134,41 @@ fn a_hub_goes_with_the_hub_above(rt: HostRuntime) -> Result<(), Fail> {
     assert!(rt; go_just(&mut over, 5, &[3, 4, 5]));
     unname(&mut over, 2);
     assert!(rt; go_just(&mut over, 5, &[1, 2, 3, 4, 5]));
+    Ok(())
+}
+
+// Whether with the members of this list just those nodes would go whose numbers stand here, of the first seven.
+fn members_go_just(over: &mut TableEvaluator, list: Name, gone: &[u64]) -> bool {
+    let keepers = &mut over.ground.keepers;
+    for node in 1..8u64 {
+        let goes = would_free_members(&mut keepers.nodes, &mut keepers.frames, list, link(node));
+        if goes != gone.contains(&node) {
+            return false;
+        }
+    }
+    true
+}
+
+// Nodes 1 and 2 are a hub over its tree, 3 and 4 its branches, 5 and 6 the tasks of a set over them.
+#[test]
+fn a_hub_goes_with_the_tasks_of_a_set(rt: HostRuntime) -> Result<(), Fail> {
+    let mut over = evaluator_over_tables(rt.alloc(), LIMITS)?;
+    let mut steps = Teller::new(rt.alloc(), ROOM)?;
+    let calls = [
+        Call::Apply(later(1)),
+        Call::Apply(fork(2, 1)),
+        Call::Apply(branch(3, 2)),
+        Call::Apply(branch(4, 2)),
+        Call::Apply(new_set(SET.0, None)),
+        Call::Apply(add(SET.0, 3)),
+        Call::Apply(add(SET.0, 4)),
+    ];
+    make_all(&mut over, &calls, &mut steps);
+    assert!(rt; members_go_just(&mut over, SET, &[3, 4, 5, 6]));
+    unname(&mut over, 2);
+    assert!(rt; members_go_just(&mut over, SET, &[1, 2, 3, 4, 5, 6]));
+    let alone: [Row; 2] = [(5, &[3, 5]), (6, &[4, 6])];
+    assert_eq!(rt; first_wrong(&mut over, &alone), None);
+    assert!(rt; members_go_just(&mut over, Name(8), &[]));
     Ok(())
 }

@@ -14,6 +14,8 @@ mod commands;
 mod evaluations;
 #[cfg(test)]
 mod fallings;
+#[cfg(test)]
+mod sets;
 mod tables;
 mod teller;
 #[cfg(test)]

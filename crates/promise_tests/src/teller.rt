@@ -40,6 +40,15 @@ pub const IS_REFUSED: StepId = StepId(4);
 pub const LACKS: StepId = StepId(5);
 /// The step that builds nothing and gives the promise of name 50, where it is there.
 pub const GIVES_FOUND: StepId = StepId(6);
+/// The step that gives its input, and does no more.
+pub const NOTES: StepId = StepId(101);
+/// The step that clears the set of the tests.
+pub const CLEARS_SET: StepId = StepId(102);
+/// The step that drops that set.
+pub const DROPS_SET: StepId = StepId(103);
+
+/// The set of the tests.
+pub const SET: Name = Name(30);
 
 /// Tells what ran and what was freed. Steps but those above pass their input on.
 #[derive(Drop)]
@@ -89,6 +98,12 @@ fn commands_of(step: StepId) -> Commands {
         commands.push(later(60));
         commands.push(later(60));
         commands.push(later(61));
+    }
+    if step == CLEARS_SET {
+        commands.push(Command::Clear { group: SET });
+    }
+    if step == DROPS_SET {
+        commands.push(Command::Drop { name: SET });
     }
     commands
 }

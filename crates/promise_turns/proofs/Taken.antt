@@ -1,19 +1,20 @@
 -- An event that is taken, fires, and ends.
-use Rattle.std.proofs.Common.{◌≡◌, ◌∙◌, sym, ap, refl, ℕ, Option, None, Some, Bool, true, false}
+use Rattle.std.proofs.Common.{◌≡◌, ◌<◌, ◌∙◌, arith, sym, ap, refl, ℕ, zero, suc, [], Option, None, Some, Bool, true, false}
 use Rattle.std.specs.Prelude.{is_some}
 use Rattle.std.proofs.lemmas.Bool.{false≢true}
 use Rattle.kj_base.specs.Queue.{head_of}
 use Rattle.kj_model.specs.Nodes.{Form, form_at}
 use Rattle.kj_model.specs.World.{State, Setting}
 use Rattle.kj_model.specs.Changes.{silent}
+use Rattle.kj_model.specs.Fire.{fire_form}
 use Rattle.kj_model.specs.Calls.{Idle, Stopped, turn, turn_at, turn_unless, rewound_world}
 use Rattle.kj_ownership.specs.Standing.{IsRecorded}
 use Rattle.kj_ownership.specs.Requests.{NamesNoRequest}
 use Rattle.kj_ownership.proofs.Changed.{live_event}
-use Rattle.kj_ownership.proofs.Taking.{takes_event}
+use Rattle.kj_ownership.proofs.Taking.{ends_event, takes_event}
 use Rattle.kj_ownership.proofs.Requests.{no_request}
-use Rattle.promise_firing.specs.Events.{event_taken}
-use Rattle.promise_turns.specs.Events.{FromTaken}
+use Rattle.promise_firing.specs.Events.{event_ended, event_taken}
+use Rattle.promise_turns.specs.Events.{FromTaken, fired}
 use Rattle.promise_turns.specs.Turns.{MayTurn, turned_at}
 
 no_form : (o : Option Form) → (is_some o ≡ true → ⊥) → o ≡ None
@@ -41,3 +42,14 @@ taken_is n setting s may none runs head = (
   (may.0, λ positive. takes_event n s may.1 runs head positive, zero_is_none s may.1.owned.recorded, no_request s n may.1 runs none),
   sym (turns_by (Some n) setting s runs head),
 )
+
+by_number : (n : ℕ) (setting : Setting) (s : State) → FromTaken n setting s → s.world.left_over ≡ [] → (fired n setting s).world.stopped ≡ false → (fired n setting s).world.left_over ≡ []
+by_number zero setting s from none runs = ap (λ (o : Option Form). (fire_form setting 0 o s).world.left_over) from.2 ∙ none
+by_number (suc n) setting s from none runs = (ends_event setting (suc n) s from.0 (from.1 (above_zero n)) none).left_over runs
+  where
+    above_zero : (n : ℕ) → 0 < suc n
+    above_zero n = omega arith
+
+-- where the loop runs on behind the event, nothing is left over
+pub none_left : (n : ℕ) (setting : Setting) (s : State) → FromTaken n setting s → s.world.left_over ≡ [] → (event_ended (fired n setting s).world).stopped ≡ false → (event_ended (fired n setting s).world).left_over ≡ []
+none_left n setting s from none runs = by_number n setting s from none runs

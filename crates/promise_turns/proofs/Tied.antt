@@ -22,7 +22,7 @@ fired_runs n setting s runs finds = found setting s.world.stopped (fired n setti
 -- from one state, where a step is missing or none is
 by_missing : (New : World → Type 0) (rule : Rule) (change : Setting → State → State) (k l : ℕ) (is : Bool) (s : State) (items : List Item) (missing : Option ℕ)
     → ((setting : Setting) → FindsMemory setting → (change setting s).world.stopped ≡ false)
-    → ((w : World) → New w → is ≡ w.stopped)
+    → ((answer : Answer) → New (change (setting_of rule answer) s).world → is ≡ (change (setting_of rule answer) s).world.stopped)
     → HasLacked (is_some missing) k l
     → (goes : (answer : Answer) → Agrees answer s.past items → IsMissing answer (s.past ++ items) missing → Moved New (change (setting_of rule answer) s) (λ s. s) (s.past ++ items))
     → ((answer : Answer) (agrees : Agrees answer s.past items) (lacking : IsMissing answer (s.past ++ items) missing) → is_some missing ≡ true → (goes answer agrees lacking).state.world.stopped ≡ true)
@@ -31,19 +31,19 @@ by_missing New rule change k l is s items None runs tells lacks goes stops =
     let answer = told_answer (Some passing) (s.past ++ items) in
     let r = goes answer (told_agrees (Some passing) s.past items) tt in
     let runs_on = runs (setting_of rule answer) (told_always (s.past ++ items)) in
-    subst (λ (b : Bool). HasLacked b k l) (sym (tells r.state.world r.stands ∙ ap (λ (t : State). t.world.stopped) r.ends ∙ runs_on)) lacks
+    subst (λ (b : Bool). HasLacked b k l) (sym (tells answer (subst (λ (t : State). New t.world) r.ends r.stands) ∙ runs_on)) lacks
 by_missing New rule change k l is s items (Some step) runs tells lacks goes stops =
     let answer = told_answer None (s.past ++ items) in
     let agrees = told_agrees None s.past items in
     let lacking = told_end (s.past ++ items) step in
     let r = goes answer agrees lacking in
-    subst (λ (b : Bool). HasLacked b k l) (sym (tells r.state.world r.stands ∙ stops answer agrees lacking refl)) lacks
+    subst (λ (b : Bool). HasLacked b k l) (sym (tells answer (subst (λ (t : State). New t.world) r.ends r.stands) ∙ sym (ap (λ (t : State). t.world.stopped) r.ends) ∙ stops answer agrees lacking refl)) lacks
 
 pub tied : (Old New : World → Type 0) (rule : Rule) (From : Setting → State → Type 0) (change : Setting → State → State) (a b : Telling) (k l : ℕ) (is : Bool)
     → Acts Old New rule From change (λ s. s) a b k l
     → (s : State) → Old s.world → ((answer : Answer) → From (setting_of rule answer) s)
     → ((setting : Setting) → FindsMemory setting → (change setting s).world.stopped ≡ false)
-    → ((w : World) → New w → is ≡ w.stopped)
+    → ((answer : Answer) → New (change (setting_of rule answer) s).world → is ≡ (change (setting_of rule answer) s).world.stopped)
     → HasLacked is k l
 tied Old New rule From change a b k l is d s old from runs tells =
     by_missing New rule change k l is s d.items d.missing runs tells d.lacks

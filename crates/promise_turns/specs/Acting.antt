@@ -7,6 +7,10 @@ use Rattle.kj_model.specs.World.{World, State, Setting}
 use Rattle.promise_walks.specs.Walks.{Moved}
 use Rattle.promise_walks.specs.Values.{Answer, Agrees, Rule, setting_of}
 
+-- each state
+abbrev pub Anywhere : Setting → State → Type 0
+Anywhere setting s = Unit {0}
+
 -- after this record this step finds no memory, where there is one
 abbrev pub IsMissing : Answer → List Item → Option ℕ → Type 0
 IsMissing answer past None = Unit {0}

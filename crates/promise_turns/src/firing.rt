@@ -1,5 +1,5 @@
 //! The event of a node.
-ghost use Rattle.std.specs.Prelude.{◌≡◌, []};
+ghost use Rattle.std.specs.Prelude.{◌≡◌, ◌≤◌, [], length};
 ghost use Rattle.promise_nodes.specs.Kept.{OnlyRises};
 ghost use Rattle.promise_walks.specs.Walks.{Both};
 ghost use Rattle.promise_turns.specs.Acting.{Acts};
@@ -28,7 +28,7 @@ fn fire_node<N: Nodes + Drop, M: Names + Drop, S: Steps>(
         (S.lacks steps.new) }
     ensures plain { OnlyRises (N.is_plain over.old.nodes) (N.is_plain over.new.nodes) }
     ensures slots { N.slots over.new.nodes ≡ N.slots over.old.nodes }
-    ensures over { M.over over.new.names ≡ M.over over.old.names }
+    ensures over { length (M.over over.new.names) ≤ 1 }
 {
     match look(over, node) {
         Event::Takes(link) => fire_chain(over, node, link, steps),
@@ -54,7 +54,7 @@ pub(crate) fn fire<N: Nodes + Drop, M: Names + Drop, S: Steps>(
         (S.told steps.new) (S.lacks steps.old) (S.lacks steps.new) }
     ensures plain { OnlyRises (N.is_plain over.old.nodes) (N.is_plain over.new.nodes) }
     ensures slots { N.slots over.new.nodes ≡ N.slots over.old.nodes }
-    ensures over { M.over over.new.names ≡ M.over over.old.names }
+    ensures over { length (M.over over.new.names) ≤ 1 }
 {
     if node.number.0 == 0 {
         return;

@@ -1,10 +1,9 @@
 //! Turns.
-ghost use Rattle.std.specs.Prelude.{◌≡◌, [], false};
+ghost use Rattle.std.specs.Prelude.{◌≡◌, ◌≤◌, [], false, length, max};
 ghost use Rattle.kj_base.specs.Counts.{HasLacked};
 ghost use Rattle.kj_base.specs.Queue.{head_of};
 ghost use Rattle.kj_model.specs.World.{State, World};
 ghost use Rattle.kj_model.specs.Calls.{turn};
-ghost use Rattle.kj_ownership.specs.Kept.{Rests};
 ghost use Rattle.promise_nodes.specs.Kept.{OnlyRises};
 ghost use Rattle.promise_nodes.specs.Shown.{link_number};
 ghost use Rattle.promise_walks.specs.Walks.{Both};
@@ -72,11 +71,12 @@ fn turn_at<N: Nodes + Drop, M: Names + Drop, S: Steps>(
     ensures event { IsTaken result (Some event.number.0) }
     ensures plain { OnlyRises (N.is_plain over.old.nodes) (N.is_plain over.new.nodes) }
     ensures slots { N.slots over.new.nodes ≡ N.slots over.old.nodes }
-    ensures over { M.over over.new.names ≡ M.over over.old.names }
+    ensures none_over { lacked_memory (turned_in result) ≡ false → M.over over.new.names ≡ [] }
+    ensures over { length (M.over over.new.names) ≤ 1 }
 {
     fire(over, event, steps);
     end(over);
-    if is_stopped(over) {
+    if has_ended(over) {
         return TakenTurn::NoMemory;
     }
     TakenTurn::Fired(event)
@@ -100,7 +100,8 @@ pub fn take_turn<N: Nodes + Drop, M: Names + Drop, S: Steps>(
     ensures event { (w : World) → N.stands over.old.nodes w → IsTaken result (head_of w.queue) }
     ensures plain { OnlyRises (N.is_plain over.old.nodes) (N.is_plain over.new.nodes) }
     ensures slots { N.slots over.new.nodes ≡ N.slots over.old.nodes }
-    ensures over { M.over over.new.names ≡ M.over over.old.names }
+    ensures none_over { lacked_memory (turned_in result) ≡ false → M.over over.new.names ≡ [] }
+    ensures over { length (M.over over.new.names) ≤ 1 }
 {
     match take(over) {
         Some(event) => turn_at(over, event, steps),
@@ -110,10 +111,10 @@ pub fn take_turn<N: Nodes + Drop, M: Names + Drop, S: Steps>(
 
 /// Whether the loop has stopped, as it has where a tree is left over.
 pub fn has_ended<N: Nodes + Drop, M: Names + Drop>(over: &Evaluator<N, M>) -> bool
-    ensures stopped { (s : State)
-        → M.stands over.now.names s.world
-        → Rests s
-        → result ≡ s.world.stopped }
+    ensures stopped { (w : World)
+        → M.stands over.now.names w
+        → (w.stopped ≡ false → w.left_over ≡ [])
+        → result ≡ w.stopped }
     ensures none_over { result ≡ false → M.over over.now.names ≡ [] }
 {
     if is_stopped(over) {
@@ -153,7 +154,7 @@ pub fn turn<N: Nodes + Drop, M: Names + Drop, S: Steps>(
         → HasLacked (lacked_memory result) (S.lacks steps.old) (S.lacks steps.new) }
     ensures plain { OnlyRises (N.is_plain over.old.nodes) (N.is_plain over.new.nodes) }
     ensures slots { N.slots over.new.nodes ≡ N.slots over.old.nodes }
-    ensures over { M.over over.new.names ≡ M.over over.old.names }
+    ensures over { length (M.over over.new.names) ≤ max 1 (length (M.over over.old.names)) }
 {
     if has_ended(over) {
         return Turned::Stopped;

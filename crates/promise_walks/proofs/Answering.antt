@@ -1,5 +1,5 @@
 -- Evaluations one after another.
-use Rattle.std.proofs.Common.{◌≡◌, ◌∙◌, sym, ap, subst, List, [], ◌∷◌, ◌++◌, Option, None, Result, Ok, Err, append_assoc}
+use Rattle.std.proofs.Common.{◌≡◌, ◌∙◌, sym, ap, subst, List, [], ◌∷◌, ◌++◌, None, Result, Ok, Err, append_assoc}
 use Rattle.std.proofs.lemmas.List.{append-nil}
 use Rattle.kj_base.specs.declared.memory.NoMemory.{NoMemory}
 use Rattle.kj_base.specs.Record.{Item, Run, Free}

@@ -1,10 +1,8 @@
 -- Trees that go before or after the name of a set goes or holds something else.
-use Rattle.std.proofs.Common.{◌≡◌, ◌∙◌, refl, sym, ap, subst, zero, suc, ℕ, List, [], ◌∷◌, ◌++◌, Bool, true, false, cond, Option, None, Some, arith}
-use Rattle.std.specs.Prelude.{nat_eq, nat_lt, ◌==◌}
-use Rattle.std.proofs.lemmas.Bool.{false≢true}
+use Rattle.std.proofs.Common.{◌≡◌, ◌∙◌, refl, sym, ap, subst, zero, suc, ℕ, List, [], ◌∷◌, Bool, true, false, cond, Option, None, Some, arith}
+use Rattle.std.specs.Prelude.{nat_eq, nat_lt}
 use Rattle.std.proofs.lemmas.Bool.Decides.{nat_tests}
-use Rattle.kj_base.specs.Record.{Free}
-use Rattle.kj_model.specs.Nodes.{Form, Cell, Branch, Wrap, Hub, Ready, Later, Last, Then, Chain, Eager, Side, Race, Join, Task, Request, form_at, parts_of, dropped}
+use Rattle.kj_model.specs.Nodes.{Form, Cell, Branch, Wrap, Hub, form_at, parts_of, dropped}
 use Rattle.kj_model.specs.World.{World, State, Named, Held, Promise, CellOf, AskCell, HubOf, Group, Canceler, RequestOf, held_at, depth_of}
 use Rattle.kj_model.specs.Changes.{silent, put, gone, with_names, without_name, with_new, named}
 use Rattle.kj_model.specs.Free.{Guard, Holding, Every, is_guarded, free_unless, free_unreferenced, reference_gone, without_branch_in, without_branch, without_wrap_in, without_wrap, ask_of, is_ask_of, abandoned_as, unlinked, each_freed, free_form, free_to, free}

@@ -1,5 +1,5 @@
 -- One change after another.
-use Rattle.std.proofs.Common.{◌≡◌, ◌+◌, ℕ, List, [], ◌∷◌, ◌++◌, Option, None, Some, Bool, refl, sym, ap, ◌∙◌, append_assoc, length, length-append, arith}
+use Rattle.std.proofs.Common.{◌≡◌, ℕ, List, [], ◌∷◌, ◌++◌, Option, None, Some, Bool, refl, sym, ap, ◌∙◌, append_assoc, length, length-append, arith}
 use Rattle.kj_model.specs.World.{World, State}
 use Rattle.kj_model.specs.Changes.{frees_in}
 use Rattle.kj_base.specs.Record.{Item, Run, Free, Tells}

@@ -13,7 +13,7 @@ use Rattle.kj_model.specs.Falling.{falling, each_falling, form_falling, referenc
 use Rattle.promise_nodes.specs.Shown.{link_number, next_number, run_from}
 use Rattle.promise_nodes.specs.declared.nodes.Mark.{Mark}
 use Rattle.promise_nodes.specs.declared.nodes.Mark.TheVariants.{Left, Gone}
-use Rattle.promise_nodes.specs.Kept.{AreUnmarked, IsLive, IsMarked, is_unreferenced}
+use Rattle.promise_nodes.specs.Kept.{IsLive, IsMarked, is_unreferenced}
 use Rattle.promise_names.specs.declared.names.Leaving.{Leaving}
 use Rattle.promise_names.specs.declared.names.Leaving.TheVariants.{Nothing}
 use Rattle.promise_walks.specs.declared.freeing.Frame.{Frame}
@@ -292,9 +292,20 @@ led_next w d old new fs now f h end within c m n done l =
     let r = done l.gone (subst (λ (way : List ℕ). AreMarks old way l.gone) (sym (way_same w fs f h n)) l.marks_are) (there_push w fs h p.0 (subst (λ (j : ℕ). IsLive w j) (sym n) p.1)) in
     subst (λ (e : List ℕ). Leads w d new now e) (next_gone w d fs f h l.gone within c m n ∙ l.ends) r
 
--- nothing is gone at first, and nothing is on the stack
-pub led_first : (w : World) (e d : ℕ) (old new : ℕ → Mark) (fs now : List Frame) (n : ℕ) → fs ≡ [] → e ≡ d → AreUnmarked old → Looks w e old new fs now n → Leads w d new now (falling (Holding []) w d [] [] n)
-led_first w e d old new fs now n none same unmarked looks =
-    let by : Looks w d old new [] now n = subst (λ (j : ℕ). Looks w j old new [] now n) same (subst (λ (l : List Frame). Looks w e old new l now n) none looks) in
+-- one more tree falls: nothing is on the stack at first
+pub led_first : (w : World) (d : ℕ) (old new : ℕ → Mark) (fs now : List Frame) (gone : List ℕ) (n : ℕ) → fs ≡ [] → AreMarks old [] gone → Looks w d old new fs now n → Leads w d new now (gone ++ falling (Holding []) w d [] gone n)
+led_first w d old new fs now gone n none marks looks =
+    let by : Looks w d old new [] now n = subst (λ (l : List Frame). Looks w d old new l now n) none looks in
     let all : d - 0 ≡ d = omega arith in
-    subst (λ (j : ℕ). Leads w d new now (falling (Holding []) w j [] [] n)) all (by [] (λ m. unmarked m) tt)
+    subst (λ (j : ℕ). Leads w d new now (gone ++ falling (Holding []) w j [] gone n)) all (by gone marks tt)
+
+-- nothing is left on the stack
+pub led_last : (w : World) (d : ℕ) (marks : ℕ → Mark) (fs : List Frame) (end : List ℕ) → fs ≡ [] → Leads w d marks fs end → AreMarks marks [] end
+led_last w d marks fs end none leads = by fs none leads
+  where
+    by : (l : List Frame) → l ≡ [] → Leads w d marks l end → AreMarks marks [] end
+    by [] e h = subst (AreMarks marks []) h.ends h.marks_are
+    by (f ∷ l) e h = absurd (nil_more e)
+      where
+        nil_more : ◌≡◌ {A = List Frame} (f ∷ l) [] → ⊥
+        nil_more q = cc

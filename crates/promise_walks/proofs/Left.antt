@@ -50,7 +50,7 @@ canceler_shown members (PromiseCase root) is = absurd (false≢true is)
 canceler_shown members (CellCase cell) is = absurd (false≢true is)
 canceler_shown members (AskCase cell is_taken) is = absurd (false≢true is)
 canceler_shown members (HubCase hub) is = absurd (false≢true is)
-canceler_shown members (GroupCase error empty) is = absurd (false≢true is)
+canceler_shown members (GroupCase error tasks empty) is = absurd (false≢true is)
 canceler_shown members (RequestCase request) is = absurd (false≢true is)
 
 -- a canceler with some Wraps
@@ -78,7 +78,7 @@ other_shown n canceler members (PromiseCase root) w is = refl
 other_shown n canceler members (CellCase cell) w is = refl
 other_shown n canceler members (AskCase cell is_taken) w is = refl
 other_shown n canceler members (HubCase hub) w is = refl
-other_shown n canceler members (GroupCase error empty) w is = refl
+other_shown n canceler members (GroupCase error tasks empty) w is = refl
 other_shown n canceler members (RequestCase request) w is = refl
 
 other_seen : (n canceler : ℕ) (o : Option HeldCase) (seen : Option Held) (w : World) → SeesHeld o seen → is_canceler o ≡ false → without_wrap_in n canceler seen w ≡ w

@@ -4,10 +4,14 @@ pub mod Climbed
 pub mod Commuted
 pub mod Composed
 pub mod Costs
+pub mod Changing
+pub mod Newest
+pub mod Emptied
 pub mod Entered
 pub mod Fallen
 pub mod Finished
 pub mod Left
+pub mod Members
 pub mod Seen
 pub mod Sought
 pub mod Summed

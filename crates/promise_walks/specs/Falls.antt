@@ -1,5 +1,5 @@
 -- The walk that asks which nodes would go, against the definitions.
-use Rattle.std.specs.Prelude.{◌≡◌, ℕ, zero, suc, List, [], ◌∷◌, ◌++◌, Option, None, Some, Bool, true, false, ◌||◌, ◌≤◌, length}
+use Rattle.std.specs.Prelude.{◌≡◌, ℕ, zero, suc, List, [], ◌∷◌, ◌++◌, Option, None, Some, Bool, true, false, ◌||◌, ◌≤◌, find, length, reverse}
 use Rattle.std.specs.List.{AllByRecursion}
 use Rattle.kj_base.specs.Places.{Row}
 use Rattle.kj_model.specs.Nodes.{Form, Entry, form_at, is_in}
@@ -11,7 +11,7 @@ use Rattle.kj_model.specs.Trees.{none_if}
 use Rattle.kj_model.specs.Falling.{falling, each_falling, branches_staying}
 use Rattle.promise_nodes.specs.declared.nodes.Mark.{Mark}
 use Rattle.promise_nodes.specs.declared.nodes.Mark.TheVariants.{Unmarked, Left, Gone}
-use Rattle.promise_nodes.specs.Kept.{IsLive, Same, SameRows}
+use Rattle.promise_nodes.specs.Kept.{IsLive, is_live, Same, SameRows}
 use Rattle.promise_walks.specs.declared.freeing.Frame.{Frame}
 use Rattle.promise_walks.specs.Shapes.{numbers_of, hub_of, SeesShape}
 use Rattle.promise_walks.specs.declared.shape.Shape.{Shape}
@@ -91,6 +91,17 @@ pub record Leads (w : World) (k : ℕ) (marks : ℕ → Mark) (fs : List Frame) 
   pub marks_are : AreMarks marks (way_of w [] fs) gone
   pub there : AreThere w fs
   pub ends : all_gone w k [] fs gone ≡ end
+
+-- these members are still to come, at most so many, the next one that lives first; what goes with the newer ones is gone
+pub record HaveFallen (w : World) (d : ℕ) (marks : ℕ → Mark) (members : List ℕ) (at : Option ℕ) (most : ℕ) : Type 0 where
+  pub newer : List ℕ
+  pub rest : List ℕ
+  pub gone : List ℕ
+  pub members_are : reverse members ≡ newer ++ rest
+  pub first : at ≡ find (is_live w) rest
+  pub marks_are : AreMarks marks [] gone
+  pub ends : gone ++ each_falling (falling (Holding []) w d []) gone rest ≡ each_falling (falling (Holding []) w d []) [] (reverse members)
+  pub few : length rest ≤ most
 
 -- a node is entered: what is left to do for it is what goes with its tree
 pub record IsEntered (w : World) (marks : ℕ → Mark) (way gone : List ℕ) (n : ℕ) (f : Frame) : Type 0 where

@@ -7,3 +7,5 @@ pub mod Looks
 pub mod Climbs
 pub mod Hubs
 pub mod Falls
+pub mod Living
+pub mod Sets

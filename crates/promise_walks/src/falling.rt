@@ -1,12 +1,13 @@
-//! Which nodes would go with a tree, read off the nodes as they stand. Nothing goes.
-ghost use Rattle.std.specs.Prelude.{◌≡◌, ◌<◌, ◌≤◌, ◌+◌, ◌-◌, ◌++◌, ◌&&◌, [], ◌∷◌, ℕ, List, Some, false, length, vec_len, vec_capacity};
+//! Which nodes would go with a tree, or with the members of a list, read off the nodes as they stand. Nothing goes.
+ghost use Rattle.std.specs.Prelude.{◌≡◌, ◌<◌, ◌≤◌, ◌+◌, ◌-◌, ◌++◌, ◌&&◌, [], ◌∷◌, ℕ, List, Some, false, length, reverse, vec_len, vec_capacity};
 ghost use Rattle.kj_model.specs.World.{World};
 ghost use Rattle.kj_model.specs.Nodes.{Branch, form_at, is_in};
 ghost use Rattle.kj_model.specs.Fire.{branches_of};
 ghost use Rattle.kj_model.specs.Free.{Holding};
-ghost use Rattle.kj_model.specs.Falling.{falling, form_then, is_branch_of, is_unnamed_hub};
+ghost use Rattle.kj_model.specs.Falling.{falling, each_falling, form_then, is_branch_of, is_unnamed_hub};
 ghost use Rattle.promise_nodes.specs.Shown.{shown};
-ghost use Rattle.promise_nodes.specs.Kept.{Same, SameRows, is_unreferenced};
+ghost use Rattle.promise_nodes.specs.Kept.{AreUnmarked, Same, SameRows, is_unreferenced};
+ghost use Rattle.promise_nodes.specs.Members.{lists_in};
 ghost use Rattle.promise_walks.specs.Shapes.{SeesShape};
 ghost use Rattle.promise_walks.specs.Stacks.{weigh, cost};
 ghost use Rattle.promise_walks.specs.Falls.{AreMarks, AreThere, IsEntered, Leads, SeesLeft, Stays, all_gone, are_off, is_off, known, way_of};
@@ -14,7 +15,7 @@ ghost use Rattle.promise_walks.specs.Falls.{AreMarks, AreThere, IsEntered, Leads
 use crate::freeing::Frame;
 use crate::pushing::{is_deep, put_last};
 use crate::shape::{Parts, Shape, shape_at};
-use kj_base::{Form, Link};
+use kj_base::{Form, Link, Name};
 use promise_names::Leaving;
 use promise_nodes::{Mark, Nodes};
 
@@ -239,6 +240,51 @@ fn go_on<N: Nodes>(nodes: &mut N, frames: &mut Vec<Frame>, frame: Frame)
     look_at(nodes, frames, frame.parts.next);
 }
 
+// The nodes that go with one more tree are gone too.
+fn mark_tree<N: Nodes>(nodes: &mut N, frames: &mut Vec<Frame>, root: Link)
+    requires room { N.slots nodes.old + 1 ≤ vec_capacity frames.old }
+    ensures falls { (w : World) (gone : List ℕ) → N.stands nodes.old w
+        → AreMarks (N.marks nodes.old) [] gone → AreMarks (N.marks nodes.new) []
+        (gone ++ falling (Holding []) w (N.slots nodes.old + 1) [] gone root.number.0) }
+    ensures stands { (w : World) → N.stands nodes.old w → N.stands nodes.new w }
+    ensures stays { Stays (known (N.is_taken nodes.old) (N.is_listed nodes.old)
+        (N.is_plain nodes.old) (N.room nodes.old) (N.next nodes.old) (N.slots nodes.old))
+        (known (N.is_taken nodes.new) (N.is_listed nodes.new) (N.is_plain nodes.new)
+        (N.room nodes.new) (N.next nodes.new) (N.slots nodes.new)) }
+    ensures room { vec_capacity frames.old ≤ vec_capacity frames.new }
+{
+    frames.clear();
+    look_at(nodes, frames, root);
+    'looking: while let Some(frame) = frames.pop() {
+        go_on(nodes, frames, frame);
+    }
+}
+
+// The nodes that go with the live members of a list, the newest first, are gone.
+fn mark_members<N: Nodes>(nodes: &mut N, frames: &mut Vec<Frame>, list: Name)
+    requires room { N.slots nodes.old + 1 ≤ vec_capacity frames.old }
+    ensures falls { (w : World) → N.stands nodes.old w → AreUnmarked (N.marks nodes.old)
+        → AreMarks (N.marks nodes.new) [] (each_falling
+        (falling (Holding []) w (N.slots nodes.old + 1) []) [] (reverse (lists_in w list.0))) }
+    ensures stands { (w : World) → N.stands nodes.old w → N.stands nodes.new w }
+    ensures stays { Stays (known (N.is_taken nodes.old) (N.is_listed nodes.old)
+        (N.is_plain nodes.old) (N.room nodes.old) (N.next nodes.old) (N.slots nodes.old))
+        (known (N.is_taken nodes.new) (N.is_listed nodes.new) (N.is_plain nodes.new)
+        (N.room nodes.new) (N.next nodes.new) (N.slots nodes.new)) }
+    ensures room { vec_capacity frames.old ≤ vec_capacity frames.new }
+{
+    let mut at = nodes.newest_member(list);
+    let mut left = nodes.next();
+    'falling: while left > 0 {
+        let Some(member) = at else {
+            return;
+        };
+        mark_tree(nodes, frames, member);
+        at = nodes.older_member(member);
+        left -= 1;
+    }
+}
+
 /// Whether a node would go with a tree, that node itself and the hubs with their last branches too, by marks that no world
 /// sees. The frames have room for slots + 1, and may have anything in them. Each node that would go is entered once, and
 /// at each branch those of its hub are looked at from the oldest on, up to the first that stays.
@@ -255,11 +301,32 @@ pub fn would_free<N: Nodes>(nodes: &mut N, frames: &mut Vec<Frame>, root: Link, 
     ensures slots { N.slots nodes.new ≡ N.slots nodes.old }
     ensures room { vec_capacity frames.old ≤ vec_capacity frames.new }
 {
-    frames.clear();
     nodes.clear_marks();
-    look_at(nodes, frames, root);
-    'looking: while let Some(frame) = frames.pop() {
-        go_on(nodes, frames, frame);
-    }
+    mark_tree(nodes, frames, root);
+    is_gone(nodes, node)
+}
+
+/// The same of the live members of a list, one after another, the newest first: whether the node would go with one of them,
+/// each tree as it stands once those of the newer members are gone.
+pub fn would_free_members<N: Nodes>(
+    nodes: &mut N,
+    frames: &mut Vec<Frame>,
+    list: Name,
+    node: Link,
+) -> bool
+    requires room { N.slots nodes.old + 1 ≤ vec_capacity frames.old }
+    ensures goes { (w : World) → N.stands nodes.old w → result ≡ is_in node.number.0 (each_falling
+        (falling (Holding []) w (N.slots nodes.old + 1) []) [] (reverse (lists_in w list.0))) }
+    ensures stands { (w : World) → N.stands nodes.old w → N.stands nodes.new w }
+    ensures taken { Same (N.is_taken nodes.old) (N.is_taken nodes.new) }
+    ensures listed { Same (N.is_listed nodes.old) (N.is_listed nodes.new) }
+    ensures plain { Same (N.is_plain nodes.old) (N.is_plain nodes.new) }
+    ensures fits { SameRows (N.room nodes.old) (N.room nodes.new) }
+    ensures next { N.next nodes.new ≡ N.next nodes.old }
+    ensures slots { N.slots nodes.new ≡ N.slots nodes.old }
+    ensures room { vec_capacity frames.old ≤ vec_capacity frames.new }
+{
+    nodes.clear_marks();
+    mark_members(nodes, frames, list);
     is_gone(nodes, node)
 }

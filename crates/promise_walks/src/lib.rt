@@ -2,6 +2,7 @@
 #![tactic(auto)]
 
 mod closing;
+mod emptying;
 mod evaluating;
 mod falling;
 mod freeing;
@@ -17,8 +18,9 @@ mod pushing;
 mod shape;
 mod sums;
 
+pub use emptying::announce_empty;
 pub use evaluating::evaluate;
-pub use falling::would_free;
+pub use falling::{would_free, would_free_members};
 pub use freeing::{Frame, free_part, free_tree, free_unreferenced};
 pub use guard::Guard;
 pub use holding::holds;

@@ -9,7 +9,7 @@ use Rattle.kj_base.specs.declared.outcomes.Exception.{Exception}
 use Rattle.kj_base.specs.declared.endings.Ending.{Ending}
 use Rattle.kj_base.specs.declared.endings.Ending.TheVariants.{Value, Throw, Promise, Input}
 use Rattle.promise_commands.specs.declared.command.Command.{Command}
-use Rattle.promise_commands.specs.declared.command.Command.TheVariants.{Now, Broken, Later, Last, Pair, Then, Chain, Eager, Fork, Branch, Race, All, Fast, Fulfil, Reject, DropCell, Detach, NewSet, OnEmpty, Clear, NewCanceler, Cancel, Drop}
+use Rattle.promise_commands.specs.declared.command.Command.TheVariants.{Now, Broken, Later, Last, Pair, Then, Chain, Eager, Fork, Branch, Race, All, Fast, Fulfil, Reject, DropCell, Detach, NewSet, Add, OnEmpty, Clear, NewCanceler, Cancel, Drop}
 use Rattle.promise_script.specs.declared.meaning.Meaning.{Meaning}
 use Rattle.promise_script.specs.declared.meaning.Meaning.TheVariants.{Nothing, Limits as LimitsLine, Do, Turn, Run, Wait, Step, Close}
 use Rattle.promise_script.specs.ScriptText.{CommandFits, EndingFits, MeaningFits, Means, NameFits, NamesFit, WordsFit, command_words, ending_words, exception_words, lines_of, meaning_words, name_word}
@@ -72,6 +72,7 @@ command (Reject cell e) fit = (refl, (name cell fit.0, exception e fit.1))
 command (DropCell cell) fit = (refl, (name cell fit, tt))
 command (Detach source) fit = (refl, (name source fit, tt))
 command (NewSet group error) fit = (refl, (name group fit.0, (step_unbroken error fit.1, tt)))
+command (Add group source) fit = (refl, (name group fit.0, (name source fit.1, tt)))
 command (OnEmpty n group) fit = (refl, (name n fit.0, (name group fit.1, tt)))
 command (Clear group) fit = (refl, (name group fit, tt))
 command (NewCanceler canceler) fit = (refl, (name canceler fit, tt))

@@ -55,6 +55,7 @@ pub fn print_command(text: &mut Bytes, command: &Command) -> Result<(), NoMemory
         Command::DropCell { cell } => print_numbers(text, b"dropcell", &[id(cell)]),
         Command::Detach { source } => print_numbers(text, b"detach", &[id(source)]),
         Command::NewSet { group, error } => print_steps(text, b"set", &[id(group)], &[*error]),
+        Command::Add { group, source } => print_numbers(text, b"add", &[id(group), id(source)]),
         Command::OnEmpty { name, group } => {
             print_numbers(text, b"empty", &[id(name), id(group)])
         }

@@ -52,6 +52,7 @@ fn prints_each_line(rt: HostRuntime) -> Result<(), Fail> {
         b"detach 1\n",
         b"set 1 -\n",
         b"set 1 2\n",
+        b"add 1 2\n",
         b"empty 1 2\n",
         b"clear 1\n",
         b"canceler 1\n",

@@ -120,7 +120,7 @@ const SCRIPTS: [(&[u8], u8, &[u8]); 25] = [
     (b"later 1\r\n", 1, b"bad line 1\n"),
     (b"turn\nlimits 8 1\n", 1, b"bad line 2\n"),
     (b"step 1\nlater 1\n", 1, b"bad line 3\n"),
-    (b"later 1\nadd 2 1\nturn 1\n", 9, b"not built line 2\n"),
+    (b"later 1\nwrap 2 3 1\nturn 1\n", 9, b"not built line 2\n"),
 ];
 
 #[test]

@@ -3,7 +3,7 @@ use Rattle.kj_model.specs.Calls.{awaited_freed, with_awaited}
 use Rattle.kj_model.specs.Effects.{disarmed_node}
 use Rattle.kj_model.specs.Value.{freed}
 use Rattle.kj_model.specs.World.{World, Awaited}
-use Rattle.promise_firing.proofs.Changing.{does_none, does_silent}
+use Rattle.promise_walks.proofs.Changing.{does_none, does_silent}
 use Rattle.promise_walks.specs.Walks.{Both}
 use Rattle.promise_walks.proofs.Composed.{does_from}
 use Rattle.loop_core.specs.Waits.{awaited_gone}

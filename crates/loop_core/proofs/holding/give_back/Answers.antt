@@ -1,4 +1,4 @@
-use Rattle.std.proofs.Common.{◌≡◌, Option, ℕ, None, Some, is_some, refl, sym, ap, subst, arith}
+use Rattle.std.proofs.Common.{[], ◌≡◌, Option, ℕ, None, Some, is_some, refl, sym, ap, subst, arith}
 use Rattle.kj_model.specs.Calls.{with_awaited}
 use Rattle.kj_model.specs.Changes.{named}
 use Rattle.kj_model.specs.World.{Promise, Held}
@@ -36,5 +36,5 @@ returns-clause-stands g c w both none =
     let inner = subst (λ k. Both (g.N.Nodes.stands k.nodes) (g.M.Names.stands k.names) w) (sym c.ground.view_is) both in
     let v = with_awaited None w in
     let nodes = c.set_awaited.ensures.stands w None inner.0 refl in
-    let names = c.set.ensures.stands v (c.let_go.ensures.stands w inner.1) (subst (λ (o : Option Held). IsListless o) (sym none) tt) in
+    let names = c.set.ensures.stands v [] (c.let_go.ensures.stands w inner.1) (subst (λ (o : Option Held). IsListless o) (sym none) tt) tt in
     (g.met.N.Nodes.names_free c.set_awaited.new.self v (named name (Promise root) v) refl (named_lists name (Promise root) v (sym (ap members_of none))) nodes, names)

@@ -3,7 +3,7 @@ use Rattle.kj_model.specs.Calls.{let_go, let_go_of}
 use Rattle.kj_model.specs.Changes.{silent}
 use Rattle.kj_model.specs.Effects.{disarmed_node}
 use Rattle.kj_model.specs.World.{World, Awaited}
-use Rattle.promise_firing.proofs.Changing.{does_behind, does_none, does_silent}
+use Rattle.promise_walks.proofs.Changing.{does_behind, does_none, does_silent}
 use Rattle.promise_names.specs.Held.{awaited_key}
 use Rattle.promise_walks.specs.Walks.{Both}
 use Rattle.promise_walks.proofs.Composed.{does_from}

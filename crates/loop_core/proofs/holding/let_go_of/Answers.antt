@@ -4,7 +4,7 @@ use Rattle.kj_model.specs.Changes.{named}
 use Rattle.kj_model.specs.Value.{freed}
 use Rattle.kj_model.specs.World.{World, State, Awaited, Promise, held_at}
 use Rattle.promise_apply.proofs.Uses.{there_is}
-use Rattle.promise_firing.proofs.Changing.{does_none, does_silent}
+use Rattle.promise_walks.proofs.Changing.{does_none, does_silent}
 use Rattle.promise_names.specs.Held.{SeesHeld}
 use Rattle.promise_walks.specs.Walks.{Both}
 use Rattle.loop_core.proofs.WaitEnds.{none_there}

@@ -1,5 +1,5 @@
 -- Turn by turn.
-use Rattle.std.proofs.Common.{ℕ, suc, ◌≡◌, ◌∙◌, ◌-◌, ◌≤◌, Bool, true, false, refl, sym, ap, subst, arith}
+use Rattle.std.proofs.Common.{ℕ, suc, List, [], length, ◌≡◌, ◌∙◌, ◌-◌, ◌≤◌, Bool, true, false, refl, sym, ap, subst, arith}
 use Rattle.std.specs.Prelude.{nat_eq}
 use Rattle.std.proofs.lemmas.Bool.{false≢true}
 use Rattle.std.proofs.lemmas.Bool.Decides.{nat_tests}
@@ -25,6 +25,9 @@ isnt_zero n h = by (nat_eq n 0) refl
 
 none_left : (n : ℕ) → n ≤ 0 → n ≡ 0
 none_left n h = omega (arith, h)
+
+few_by : (xs : List ℕ) → xs ≡ [] → length xs ≤ 1
+few_by xs none = let e = ap length none in omega (arith, e)
 
 pub loop-left-init : goal.loop-left-init
 loop-left-init g c =
@@ -52,8 +55,11 @@ returns-then-event-eq0-clause-memory g c =
     let t : TakenIs g.N.Nodes.rule (g.N.Nodes.stands c.loop-left.over.nodes) (g.M.Names.stands c.loop-left.over.names) (g.N.Nodes.stands c.take_turn.new.over.nodes) (g.M.Names.stands c.take_turn.new.over.names) (Fired c.in-Fired.event) (g.S.Steps.told c.loop-left.steps) (g.S.Steps.told c.take_turn.new.steps) (g.S.Steps.lacks c.loop-left.steps) (g.S.Steps.lacks c.take_turn.new.steps) = record { acts = c.in-Fired.ensures.turns; memory = c.in-Fired.ensures.memory; event = c.in-Fired.ensures.event } in
     last_lacks g.N.Nodes.rule (g.N.Nodes.stands c.args.over.now.nodes) (g.M.Names.stands c.args.over.now.names) (g.N.Nodes.stands c.loop-left.over.nodes) (g.M.Names.stands c.loop-left.over.names) (g.N.Nodes.stands c.take_turn.new.over.nodes) (g.M.Names.stands c.take_turn.new.over.names) (λ (setting : Setting). wait_more setting c.args.turns) (λ (setting : Setting). wait_more setting c.loop-left.left) (Fired c.in-Fired.event) _ _ _ _ _ _ c.loop-left.invariant.1 t
 
+pub returns-then-event-eq0-clause-none_over : goal.returns-then-event-eq0-clause-none_over
+returns-then-event-eq0-clause-none_over g c = λ e. c.in-Fired.ensures.none_over refl
+
 pub returns-then-event-eq0-clause-over : goal.returns-then-event-eq0-clause-over
-returns-then-event-eq0-clause-over g c = c.take_turn.ensures.over ∙ c.loop-left.invariant.0
+returns-then-event-eq0-clause-over g c = c.take_turn.ensures.over
 
 pub loop-left-preserved : goal.loop-left-preserved
 loop-left-preserved g c =
@@ -65,7 +71,7 @@ loop-left-preserved g c =
     let C : State → Type 0 = Waits g.N.Nodes.rule (g.N.Nodes.stands c.take_turn.new.over.nodes) (g.M.Names.stands c.take_turn.new.over.names) in
     let first = subst (λ (k : ℕ). Found B C g.N.Nodes.rule (λ (setting : Setting). wait_more setting k) (λ (setting : Setting). wait_more setting rest) (g.S.Steps.told c.loop-left.steps) (g.S.Steps.told c.take_turn.new.steps) (g.S.Steps.lacks c.loop-left.steps) (g.S.Steps.lacks c.take_turn.new.steps)) same
     (other_fired g.N.Nodes.rule (g.N.Nodes.stands c.loop-left.over.nodes) (g.M.Names.stands c.loop-left.over.names) (g.N.Nodes.stands c.take_turn.new.over.nodes) (g.M.Names.stands c.take_turn.new.over.names) c.in-Fired.event rest _ _ _ _ (isnt_zero c.in-Fired.event.number.0 c.if-event-eq0.false) t) in
-    (c.take_turn.ensures.over ∙ c.loop-left.invariant.0, found_then A B C g.N.Nodes.rule (λ (setting : Setting). wait_more setting c.args.turns) (λ (setting : Setting). wait_more setting c.loop-left.left) (λ (setting : Setting). wait_more setting rest) _ _ _ _ _ _ c.loop-left.invariant.1 first)
+    (c.in-Fired.ensures.none_over refl, found_then A B C g.N.Nodes.rule (λ (setting : Setting). wait_more setting c.args.turns) (λ (setting : Setting). wait_more setting c.loop-left.left) (λ (setting : Setting). wait_more setting rest) _ _ _ _ _ _ c.loop-left.invariant.1 first)
 
 pub returns-in-Idle-clause-waits : goal.returns-in-Idle-clause-waits
 returns-in-Idle-clause-waits g c =
@@ -85,8 +91,11 @@ returns-in-Idle-clause-memory g c =
     let t : TakenIs g.N.Nodes.rule (g.N.Nodes.stands c.loop-left.over.nodes) (g.M.Names.stands c.loop-left.over.names) (g.N.Nodes.stands c.take_turn.new.over.nodes) (g.M.Names.stands c.take_turn.new.over.names) IdleIn (g.S.Steps.told c.loop-left.steps) (g.S.Steps.told c.take_turn.new.steps) (g.S.Steps.lacks c.loop-left.steps) (g.S.Steps.lacks c.take_turn.new.steps) = record { acts = c.in-Idle.ensures.turns; memory = c.in-Idle.ensures.memory; event = c.in-Idle.ensures.event } in
     last_lacks g.N.Nodes.rule (g.N.Nodes.stands c.args.over.now.nodes) (g.M.Names.stands c.args.over.now.names) (g.N.Nodes.stands c.loop-left.over.nodes) (g.M.Names.stands c.loop-left.over.names) (g.N.Nodes.stands c.take_turn.new.over.nodes) (g.M.Names.stands c.take_turn.new.over.names) (λ (setting : Setting). wait_more setting c.args.turns) (λ (setting : Setting). wait_more setting c.loop-left.left) IdleIn _ _ _ _ _ _ c.loop-left.invariant.1 t
 
+pub returns-in-Idle-clause-none_over : goal.returns-in-Idle-clause-none_over
+returns-in-Idle-clause-none_over g c = λ e. c.in-Idle.ensures.none_over refl
+
 pub returns-in-Idle-clause-over : goal.returns-in-Idle-clause-over
-returns-in-Idle-clause-over g c = c.take_turn.ensures.over ∙ c.loop-left.invariant.0
+returns-in-Idle-clause-over g c = c.take_turn.ensures.over
 
 pub returns-in-NoMemory-clause-waits : goal.returns-in-NoMemory-clause-waits
 returns-in-NoMemory-clause-waits g c =
@@ -108,8 +117,11 @@ returns-in-NoMemory-clause-memory g c =
     let t : TakenIs g.N.Nodes.rule (g.N.Nodes.stands c.loop-left.over.nodes) (g.M.Names.stands c.loop-left.over.names) (g.N.Nodes.stands c.take_turn.new.over.nodes) (g.M.Names.stands c.take_turn.new.over.names) NoMemoryIn (g.S.Steps.told c.loop-left.steps) (g.S.Steps.told c.take_turn.new.steps) (g.S.Steps.lacks c.loop-left.steps) (g.S.Steps.lacks c.take_turn.new.steps) = record { acts = c.in-NoMemory.ensures.turns; memory = c.in-NoMemory.ensures.memory; event = c.in-NoMemory.ensures.event } in
     last_lacks g.N.Nodes.rule (g.N.Nodes.stands c.args.over.now.nodes) (g.M.Names.stands c.args.over.now.names) (g.N.Nodes.stands c.loop-left.over.nodes) (g.M.Names.stands c.loop-left.over.names) (g.N.Nodes.stands c.take_turn.new.over.nodes) (g.M.Names.stands c.take_turn.new.over.names) (λ (setting : Setting). wait_more setting c.args.turns) (λ (setting : Setting). wait_more setting c.loop-left.left) NoMemoryIn _ _ _ _ _ _ c.loop-left.invariant.1 t
 
+pub returns-in-NoMemory-clause-none_over : goal.returns-in-NoMemory-clause-none_over
+returns-in-NoMemory-clause-none_over g c = λ e. absurd (false≢true (sym e))
+
 pub returns-in-NoMemory-clause-over : goal.returns-in-NoMemory-clause-over
-returns-in-NoMemory-clause-over g c = c.take_turn.ensures.over ∙ c.loop-left.invariant.0
+returns-in-NoMemory-clause-over g c = c.take_turn.ensures.over
 
 pub returns-clause-waits : goal.returns-clause-waits
 returns-clause-waits g c =
@@ -126,5 +138,8 @@ returns-clause-memory g c =
     let B : State → Type 0 = Waits g.N.Nodes.rule (g.N.Nodes.stands c.loop-left.over.nodes) (g.M.Names.stands c.loop-left.over.names) in
     stands_still A B g.N.Nodes.rule (λ (setting : Setting). wait_more setting c.args.turns) (λ (setting : Setting). wait_more setting c.loop-left.left) _ _ _ _ c.loop-left.invariant.1.call c.loop-left.invariant.1.none
 
+pub returns-clause-none_over : goal.returns-clause-none_over
+returns-clause-none_over g c = λ e. c.loop-left.invariant.0
+
 pub returns-clause-over : goal.returns-clause-over
-returns-clause-over g c = c.loop-left.invariant.0
+returns-clause-over g c = few_by (g.M.Names.over c.loop-left.over.names) c.loop-left.invariant.0

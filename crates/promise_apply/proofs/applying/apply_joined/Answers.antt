@@ -1,17 +1,15 @@
-use Rattle.std.proofs.Common.{◌≡◌, ℕ, ◌+◌, ◌≤◌, List, [], ◌∷◌, ◌++◌, Option, None, Some, Bool, true, false, IsTrue, refl, sym, ap, subst, ◌∙◌, length, arith}
+use Rattle.std.proofs.Common.{◌≡◌, ℕ, List, [], ◌∷◌, ◌++◌, None, false, IsTrue, refl, sym, ap, subst, ◌∙◌, length, arith}
 use Rattle.std.specs.Prelude.{map}
 use Rattle.std.proofs.lemmas.Bool.{false≢true}
 use Rattle.kj_base.specs.Places.{Row, row}
-use Rattle.kj_model.specs.World.{World}
 use Rattle.kj_model.specs.Uses.{Use, use_as, used_as, new_over, IsNew, IsSource, first_failing, is_wrong}
 use Rattle.kj_model.specs.Apply.{anew, before_source, is_none}
 use Rattle.promise_commands.specs.Commands.{name_numbers}
 use Rattle.promise_nodes.specs.Kept.{rows_seen}
 use Rattle.promise_apply.specs.Applying.{refused_for, count_new, count_sources}
 use Rattle.promise_apply.specs.Building.{Both}
-use Rattle.promise_apply.specs.Joining.{AreSources, AreHeld, FitsJoined, joined_built, rows_before, tree_rows, source_names, source_trees}
+use Rattle.promise_apply.specs.Joining.{AreSources, FitsJoined, joined_built, rows_before, tree_rows, source_names, source_trees}
 use Rattle.promise_apply.specs.Uses.{uses_shown}
-use Rattle.promise_apply.specs.declared.sources.Source.{Source}
 use Rattle.promise_apply.proofs.Refused.{refused_so, done_applies}
 use Rattle.promise_apply.proofs.Passed.{new_absent, sides_listless}
 use Rattle.promise_apply.proofs.Several.{rows_known, held_known, rest_wrong, rest_unknown, all_found, one_new, all_go, numbers_long}

@@ -1,15 +1,13 @@
-use Rattle.std.proofs.Common.{◌≡◌, ℕ, ◌≤◌, List, [], ◌∷◌, ◌++◌, Option, None, Some, refl, sym, ap, subst, ◌∙◌}
-use Rattle.kj_base.specs.Places.{Row, row}
-use Rattle.kj_base.specs.Commands.{step_of}
-use Rattle.kj_model.specs.Nodes.{Cell}
-use Rattle.kj_model.specs.World.{World, held_at}
-use Rattle.kj_model.specs.Effects.{node_named, leaf_built, over_named, over_listening, chain_built, fork_built, branch_built, cell_settled, cell_dropped, detached_built}
-use Rattle.kj_model.specs.Uses.{Use, use_as, new_over, IsNew, IsSource, IsCell, IsHub, is_promise, is_cell, is_hub}
-use Rattle.kj_model.specs.Apply.{anew, before_source}
-use Rattle.promise_nodes.specs.Shown.{shown, link_number}
-use Rattle.promise_apply.specs.Building.{Both, over_shown, then_shown, pair_built}
+use Rattle.std.proofs.Common.{ℕ, [], ◌∷◌, Option, sym, ap, ◌∙◌}
+use Rattle.kj_base.specs.Places.{row}
+use Rattle.kj_model.specs.World.{held_at}
+use Rattle.kj_model.specs.Effects.{over_named}
+use Rattle.kj_model.specs.Uses.{use_as, new_over, IsNew, IsSource}
+use Rattle.kj_model.specs.Apply.{before_source}
+use Rattle.promise_nodes.specs.Shown.{link_number}
+use Rattle.promise_apply.specs.Building.{Both, over_shown}
 use Rattle.promise_apply.proofs.Refused.{refused_so, done_applies}
-use Rattle.promise_apply.proofs.Passed.{new_absent, second_absent, first_role, second_role, promise_root, promise_held, promise_there, cell_held, cell_there, hub_held, hub_there, listless, unnamed_listless, over_listless, leaf_listless}
+use Rattle.promise_apply.proofs.Passed.{new_absent, second_role, promise_root, promise_held, promise_there, over_listless}
 use Rattle.promise_apply.proofs.applying.apply_over.Goals as goal
 
 pub returns-in_err-check-clause-applied : goal.returns-in_err-check-clause-applied

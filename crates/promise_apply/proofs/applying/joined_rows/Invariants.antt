@@ -1,4 +1,4 @@
-use Rattle.std.proofs.Common.{◌≡◌, ◌+◌, length, take}
+use Rattle.std.proofs.Common.{◌≡◌, length, take}
 use Rattle.promise_commands.specs.Commands.{name_numbers}
 use Rattle.promise_nodes.specs.Kept.{rows_seen}
 use Rattle.promise_apply.specs.Joining.{rows_before}

@@ -32,5 +32,5 @@ returns-clause-stands g c w both listless =
     let number : m ≡ w.next = c.build-leaf.ensures.number ∙ sym (g.met.N.Nodes.next_is c.args.nodes.now w both.0) in
     let same : u ≡ leaf_built name form w = ap (λ (k : ℕ). named name (Promise k) b) number in
     let nodes = g.met.N.Nodes.names_free c.build-leaf.new.self b u refl (named_lists name (Promise m) b (sym (none_listed (held_at name b.names) listless))) (c.build-leaf.ensures.stands w both.0) in
-    let names = c.set.ensures.stands b (g.met.M.Names.nodes_free c.args.names.now w b (built_names None form w) both.1) listless in
+    let names = c.set.ensures.stands b [] (g.met.M.Names.nodes_free c.args.names.now w b (built_names None form w) both.1) listless tt in
     (subst (g.N.Nodes.stands c.build-leaf.new.self) same nodes, subst (g.M.Names.stands c.set.new.self) same names)

@@ -1,4 +1,4 @@
-use Rattle.std.proofs.Common.{◌≡◌, ℕ, Some, refl, sym, ap, subst, ◌∙◌}
+use Rattle.std.proofs.Common.{◌≡◌, ℕ, Some, refl, sym, ap, subst, ◌∙◌, []}
 use Rattle.kj_model.specs.World.{Promise, held_at}
 use Rattle.kj_model.specs.Changes.{named}
 use Rattle.kj_model.specs.Effects.{over_built, over_named}
@@ -30,4 +30,4 @@ returns-clause-stands g c w both held listless =
     let number : m ≡ w.next = c.take_source-node.ensures.number ∙ sym (g.met.N.Nodes.next_is c.args.nodes.now w both.0) in
     let same : u ≡ over_named name (over_shown c.args.over) c.args.source.0 w = ap (λ (k : ℕ). named name (Promise k) over) number in
     let nodes = g.met.N.Nodes.names_free c.take_source-node.new.nodes over u refl (named_lists name (Promise m) over (sym (none_listed (held_at name over.names) listless))) taken.0 in
-    (subst (g.N.Nodes.stands c.take_source-node.new.nodes) same nodes, subst (g.M.Names.stands c.set.new.self) same (c.set.ensures.stands over taken.1 listless))
+    (subst (g.N.Nodes.stands c.take_source-node.new.nodes) same nodes, subst (g.M.Names.stands c.set.new.self) same (c.set.ensures.stands over [] taken.1 listless tt))

@@ -1,4 +1,4 @@
-use Rattle.std.proofs.Common.{◌≡◌, ◌∙◌, ◌+◌, [], ℕ, Option, sym, ap}
+use Rattle.std.proofs.Common.{◌∙◌, ◌+◌, [], ℕ, Option, sym, ap}
 use Rattle.kj_model.specs.Nodes.{is_in}
 use Rattle.kj_model.specs.Free.{Holding}
 use Rattle.kj_model.specs.Falling.{falling}

@@ -1,4 +1,4 @@
-use Rattle.std.proofs.Common.{◌≡◌, ◌∙◌, Option, sym, subst}
+use Rattle.std.proofs.Common.{◌∙◌, Option, sym, subst}
 use Rattle.kj_base.specs.declared.nodes.Form.{Form as FormCase}
 use Rattle.kj_model.specs.Nodes.{form_at}
 use Rattle.kj_model.specs.Effects.{hub_unnamed}

@@ -1,4 +1,4 @@
-use Rattle.std.proofs.Common.{◌≡◌, ℕ, None, refl, sym, ap, subst, ◌∙◌}
+use Rattle.std.proofs.Common.{◌≡◌, ℕ, None, refl, sym, ap, subst, ◌∙◌, []}
 use Rattle.kj_model.specs.Nodes.{Cell}
 use Rattle.kj_model.specs.World.{CellOf, held_at}
 use Rattle.kj_model.specs.Changes.{named}
@@ -18,4 +18,4 @@ returns-clause-stands g c w both new =
     let number : m ≡ w.next = c.build_leaf-leaf.ensures.number ∙ sym (g.met.N.Nodes.next_is c.args.nodes.now w both.0) in
     let same : u ≡ pair_built c.args.name.0 cell w = ap (λ (k : ℕ). named cell (CellOf k) b) number in
     let nodes = g.met.N.Nodes.names_free c.build_leaf-leaf.new.nodes b u refl (named_lists cell (CellOf m) b (sym (none_listed (held_at cell b.names) new.fulfiller))) leaf.0 in
-    (subst (g.N.Nodes.stands c.build_leaf-leaf.new.nodes) same nodes, subst (g.M.Names.stands c.set.new.self) same (c.set.ensures.stands b leaf.1 new.fulfiller))
+    (subst (g.N.Nodes.stands c.build_leaf-leaf.new.nodes) same nodes, subst (g.M.Names.stands c.set.new.self) same (c.set.ensures.stands b [] leaf.1 new.fulfiller tt))

@@ -2,11 +2,11 @@ use Rattle.std.proofs.Common.{◌≡◌, ℕ, ◌+◌, ◌<◌, [], ◌∷◌, S
 use Rattle.std.specs.Prelude.{nat_eq}
 use Rattle.std.proofs.lemmas.Bool.Decides.{nat_tests}
 use Rattle.kj_base.specs.Commands.{step_of}
-use Rattle.kj_model.specs.Nodes.{Chain, Then, is_in}
-use Rattle.kj_model.specs.World.{World, Promise, held_at}
-use Rattle.kj_model.specs.Changes.{named, unnamed}
+use Rattle.kj_model.specs.Nodes.{Chain, is_in}
+use Rattle.kj_model.specs.World.{Promise, held_at}
+use Rattle.kj_model.specs.Changes.{named}
 use Rattle.kj_model.specs.Places.{built}
-use Rattle.kj_model.specs.Effects.{node_named, over_built, chain_built}
+use Rattle.kj_model.specs.Effects.{over_built, chain_built}
 use Rattle.kj_model.specs.Listening.{listened}
 use Rattle.promise_names.specs.Held.{AreFree, HasRoot, IsListless}
 use Rattle.promise_names.proofs.Listless.{none_listed}
@@ -38,7 +38,7 @@ returns-clause-stands g c w both held listless =
     let nodes = c.build-chain.ensures.stands over taken.0 in
     let names = g.met.M.Names.nodes_free c.take_source-then.new.names over b (built_names (Some n) (Chain n) over) taken.1 in
     let free = subst IsListless (sym (ap (held_at name) (built_held (Some n) (Chain n) over))) listless in
-    let set = c.set.ensures.stands b names free in
+    let set = c.set.ensures.stands b [] names free tt in
     let kept = g.met.N.Nodes.names_free c.build-chain.new.self b u (named_nodes name (Promise m) b) (named_lists name (Promise m) b (sym (none_listed (held_at name b.names) free))) nodes in
     let listens = c.listen.ensures.stands u kept in
     let after = g.met.M.Names.nodes_free c.set.new.self u (listened n u) (listened_names n u) set in

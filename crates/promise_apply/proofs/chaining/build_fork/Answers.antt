@@ -1,6 +1,6 @@
 use Rattle.std.proofs.Common.{◌≡◌, ℕ, [], None, true, sym, ap, subst, ◌∙◌}
 use Rattle.kj_model.specs.Nodes.{Hub, Tree}
-use Rattle.kj_model.specs.World.{World, HubOf, held_at}
+use Rattle.kj_model.specs.World.{HubOf, held_at}
 use Rattle.kj_model.specs.Changes.{named, unnamed}
 use Rattle.kj_model.specs.Places.{built}
 use Rattle.kj_model.specs.Effects.{node_of, fork_built}
@@ -23,7 +23,7 @@ returns-clause-stands g c w both held listless =
     let u = named hub (HubOf m) b in
     let nodes = c.build-node.ensures.stands v (g.met.N.Nodes.names_free c.args.nodes.now w v (unnamed_nodes source w) (unnamed_lists source w (ap members_of held)) both.0) in
     let names = g.met.M.Names.nodes_free c.remove.new.self v b (built_names None (Hub (Tree t) true []) v) (c.remove.ensures.stands w both.1) in
-    let set = c.set.ensures.stands b names listless in
+    let set = c.set.ensures.stands b [] names listless tt in
     let kept = g.met.N.Nodes.names_free c.build-node.new.self b u (named_nodes hub (HubOf m) b) (named_lists hub (HubOf m) b (sym (none_listed (held_at hub b.names) listless))) nodes in
     let listens = c.listen.ensures.stands u kept in
     let after = g.met.M.Names.nodes_free c.set.new.self u (listened t u) (listened_names t u) set in

@@ -1,16 +1,15 @@
 use Rattle.std.proofs.lemmas.Bool.{false≢true}
-use Rattle.std.proofs.Common.{◌≡◌, ◌∙◌, [], ◌∷◌, Option, None, Some, refl, sym, ap, subst}
+use Rattle.std.proofs.Common.{◌∙◌, [], ◌∷◌, Option, None, Some, sym, ap, subst}
 use Rattle.kj_base.specs.Commands.{Drop}
 use Rattle.kj_model.specs.World.{World, held_at}
-use Rattle.kj_model.specs.Uses.{Use, use_as, IsDroppable}
-use Rattle.kj_model.specs.Apply.{Refused}
+use Rattle.kj_model.specs.Uses.{Use}
 use Rattle.promise_commands.specs.Refusals.{refusal_of}
 use Rattle.promise_names.specs.declared.names.Held.{Held as HeldCase}
 use Rattle.promise_names.specs.Held.{SeesHeld}
 use Rattle.promise_apply.specs.Building.{Both}
 use Rattle.promise_apply.specs.Applying.{refused_first}
 use Rattle.promise_apply.proofs.Told.{silent_does}
-use Rattle.promise_apply.proofs.Dropped.{droppable, err_does, is_droppable, is_holder, never_does, refused_named, sees_droppable, sees_holder, sees_hub, sees_promise}
+use Rattle.promise_apply.proofs.Dropped.{droppable, err_does, is_droppable, never_does, refused_named, sees_canceler, sees_droppable, sees_hub, sees_promise, sees_set}
 use Rattle.promise_apply.proofs.dropping.apply_drop.Goals as goal
 
 pub returns-in_err-check_named-clause-applied : goal.returns-in_err-check_named-clause-applied
@@ -32,27 +31,24 @@ drop_hub-requires-clause-held g c w old = record {
   passes = sym (c.in_ok-check_named.ensures.refusal w old ∙ ap (λ (u : Use). refused_first (u ∷ []) w) c.dropped.ensures);
 }
 
-pub drop_holder-requires-clause-held : goal.drop_holder-requires-clause-held
-drop_holder-requires-clause-held g c w old = record {
-  holder = sees_holder c.get.result (held_at c.args.name.0 w.names) (c.get.ensures.held w old.1) (ap is_holder (c.in-Some-Group.is ∙ ap (λ (h : HeldCase). Some h) c.in-Some-Group.field-0-is));
-  passes = sym (c.in_ok-check_named.ensures.refusal w old ∙ ap (λ (u : Use). refused_first (u ∷ []) w) c.dropped.ensures);
-}
+pub drop_set-requires-clause-passes : goal.drop_set-requires-clause-passes
+drop_set-requires-clause-passes g c w old = sym (c.in_ok-check_named.ensures.refusal w old ∙ ap (λ (u : Use). refused_first (u ∷ []) w) c.dropped.ensures)
 
-pub returns-in-Some-Group-clause-applied : goal.returns-in-Some-Group-clause-applied
-returns-in-Some-Group-clause-applied g c =
-    silent_does (Both (g.N.Nodes.stands c.args.nodes.now) (g.M.Names.stands c.args.names.now)) (Both (g.N.Nodes.stands c.args.nodes.now) (g.M.Names.stands c.drop_holder.new.names)) g.N.Nodes.rule
-    (refusal_of c.drop_holder.result) (Drop c.args.name.0) _ c.drop_holder.ensures.applied
+pub drop_set-requires-clause-tasks : goal.drop_set-requires-clause-tasks
+drop_set-requires-clause-tasks g c w names =
+    sees_set c.in-Some-Group.field-0-0 c.in-Some-Group.tasks c.in-Some-Group.empty (held_at c.args.name.0 w.names)
+    (subst (λ (o : Option HeldCase). SeesHeld o (held_at c.args.name.0 w.names)) (c.in-Some-Group.is ∙ ap (λ (h : HeldCase). Some h) c.in-Some-Group.field-0-is) (c.get.ensures.held w names))
 
-pub drop_holder-requires-in-Some-Canceler-clause-held : goal.drop_holder-requires-in-Some-Canceler-clause-held
-drop_holder-requires-in-Some-Canceler-clause-held g c w old = record {
-  holder = sees_holder c.get.result (held_at c.args.name.0 w.names) (c.get.ensures.held w old.1) (ap is_holder (c.in-Some-Canceler.is ∙ ap (λ (h : HeldCase). Some h) c.in-Some-Canceler.field-0-is));
+pub drop_canceler-requires-clause-held : goal.drop_canceler-requires-clause-held
+drop_canceler-requires-clause-held g c w old = record {
+  canceler = sees_canceler (held_at c.args.name.0 w.names) (subst (λ (o : Option HeldCase). SeesHeld o (held_at c.args.name.0 w.names)) (c.in-Some-Canceler.is ∙ ap (λ (h : HeldCase). Some h) c.in-Some-Canceler.field-0-is) (c.get.ensures.held w old.1));
   passes = sym (c.in_ok-check_named.ensures.refusal w old ∙ ap (λ (u : Use). refused_first (u ∷ []) w) c.dropped.ensures);
 }
 
 pub returns-in-Some-Canceler-clause-applied : goal.returns-in-Some-Canceler-clause-applied
 returns-in-Some-Canceler-clause-applied g c =
-    silent_does (Both (g.N.Nodes.stands c.args.nodes.now) (g.M.Names.stands c.args.names.now)) (Both (g.N.Nodes.stands c.args.nodes.now) (g.M.Names.stands c.drop_holder-in-Some-Canceler.new.names)) g.N.Nodes.rule
-    (refusal_of c.drop_holder-in-Some-Canceler.result) (Drop c.args.name.0) _ c.drop_holder-in-Some-Canceler.ensures.applied
+    silent_does (Both (g.N.Nodes.stands c.args.nodes.now) (g.M.Names.stands c.args.names.now)) (Both (g.N.Nodes.stands c.args.nodes.now) (g.M.Names.stands c.drop_canceler.new.names)) g.N.Nodes.rule
+    (refusal_of c.drop_canceler.result) (Drop c.args.name.0) _ c.drop_canceler.ensures.applied
 
 pub returns-in-Some-CellOf-clause-applied : goal.returns-in-Some-CellOf-clause-applied
 returns-in-Some-CellOf-clause-applied g c =

@@ -1,4 +1,4 @@
-use Rattle.std.proofs.Common.{◌≡◌, ◌∙◌, ◌+◌, ℕ, Option, refl, sym, ap}
+use Rattle.std.proofs.Common.{◌∙◌, ◌+◌, ℕ, Option, refl, ap}
 use Rattle.std.specs.Prelude.{option_to_list}
 use Rattle.kj_base.specs.Commands.{Drop}
 use Rattle.kj_model.specs.Nodes.{form_at}

@@ -1,6 +1,6 @@
-use Rattle.std.proofs.Common.{◌≡◌, ◌∙◌, Option, refl, sym, ap}
+use Rattle.std.proofs.Common.{Option, refl, ap}
 use Rattle.kj_base.specs.Commands.{Drop}
-use Rattle.kj_model.specs.World.{World, Held}
+use Rattle.kj_model.specs.World.{Held}
 use Rattle.kj_model.specs.Changes.{unnamed}
 use Rattle.kj_model.specs.Free.{usual}
 use Rattle.kj_model.specs.Effects.{dropped_held}

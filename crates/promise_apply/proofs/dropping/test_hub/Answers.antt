@@ -1,12 +1,9 @@
-use Rattle.std.proofs.Common.{◌≡◌, ◌∙◌, [], ◌∷◌, List, Option, true, false, refl, sym, ap}
+use Rattle.std.proofs.Common.{◌≡◌, ◌∙◌, true, false, refl, sym, ap}
 use Rattle.kj_base.specs.Commands.{Drop}
 use Rattle.kj_model.specs.Changes.{unnamed}
-use Rattle.kj_model.specs.Uses.{Use, use_as, IsDroppable}
-use Rattle.kj_model.specs.Apply.{Full, is_busy}
+use Rattle.kj_model.specs.Apply.{is_busy}
 use Rattle.promise_nodes.proofs.Same.{unnamed_lists}
 use Rattle.promise_nodes.specs.Members.{members_of}
-use Rattle.promise_apply.specs.Applying.{lacks_room, refused_first, refused_if}
-use Rattle.promise_apply.specs.Uses.{uses_shown}
 use Rattle.promise_apply.proofs.Dropped.{refused_behind, hub_busy, tested_count}
 use Rattle.promise_apply.proofs.dropping.test_hub.Goals as goal
 

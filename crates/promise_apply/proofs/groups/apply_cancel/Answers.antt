@@ -11,6 +11,6 @@ pub returns : goal.returns
 returns g c = record {
   applied =
       idle_applies (Both (g.N.Nodes.stands c.args.nodes.now) (g.M.Names.stands c.args.names.now)) g.N.Nodes.rule (refusal_of c.check.result) (Cancel c.args.canceler.0) (use_as IsCanceler c.args.canceler.0 ∷ [])
-      (cancel_idle (Both (g.N.Nodes.stands c.args.nodes.now) (g.M.Names.stands c.args.names.now)) c.args.canceler.0 (λ w old. g.met.M.Names.no_members c.args.names.now w c.args.canceler.0 old.1))
+      (cancel_idle (Both (g.N.Nodes.stands c.args.nodes.now) (g.M.Names.stands c.args.names.now)) c.args.canceler.0 (λ w old. g.met.M.Names.no_wraps c.args.names.now w c.args.canceler.0 old.1))
       (λ w old. c.check.ensures.refusal w old);
 }

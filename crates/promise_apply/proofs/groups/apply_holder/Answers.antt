@@ -22,4 +22,4 @@ returns-clause-applied g c cmd is =
     (λ w old p.
     let name = c.args.name.0 in
     let free = listless name w (new_absent name [] w p) in
-    (g.met.N.Nodes.names_free c.args.nodes.now w (named name (held_shown [] c.args.held) w) refl (named_lists name (held_shown [] c.args.held) w (none_shown c.args.held ∙ sym (none_listed (held_at name w.names) free))) old.0, c.set.ensures.stands w old.1 free))
+    (g.met.N.Nodes.names_free c.args.nodes.now w (named name (held_shown [] c.args.held) w) refl (named_lists name (held_shown [] c.args.held) w (none_shown c.args.held ∙ sym (none_listed (held_at name w.names) free))) old.0, c.set.ensures.stands w [] old.1 free c.requires.counted))

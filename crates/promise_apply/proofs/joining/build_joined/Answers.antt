@@ -1,11 +1,11 @@
-use Rattle.std.proofs.Common.{◌≡◌, ℕ, ◌+◌, ◌<◌, ◌^◌, List, [], None, Some, sym, ap, subst, ◌∙◌, arith, length}
+use Rattle.std.proofs.Common.{◌≡◌, ℕ, ◌+◌, ◌<◌, List, [], None, Some, sym, ap, subst, ◌∙◌, arith, length}
 use Rattle.kj_model.specs.Nodes.{Form, is_in}
-use Rattle.kj_model.specs.World.{World, Promise, held_at}
+use Rattle.kj_model.specs.World.{Promise, held_at}
 use Rattle.kj_model.specs.Changes.{named}
 use Rattle.kj_model.specs.Places.{built}
 use Rattle.kj_model.specs.Effects.{leaf_built, sides_built, each_listened}
 use Rattle.promise_nodes.specs.Shown.{shown, run_from}
-use Rattle.promise_names.specs.Held.{AreFree, HasRoot, IsListless}
+use Rattle.promise_names.specs.Held.{AreFree, HasRoot}
 use Rattle.promise_names.proofs.Listless.{none_listed}
 use Rattle.promise_apply.specs.Joining.{joined_form, joined_built, source_names, source_trees}
 use Rattle.promise_nodes.proofs.Same.{built_names, named_lists}
@@ -30,7 +30,7 @@ returns-clause-stands g c w both held listless =
     let u = named name (Promise m) b in
     let nodes = c.build-join.ensures.stands v sides.0 in
     let names = g.met.M.Names.nodes_free c.build_sides-first.new.names v b (built_names None form v) sides.1 in
-    let set = c.set.ensures.stands b names listless in
+    let set = c.set.ensures.stands b [] names listless tt in
     let kept = g.met.N.Nodes.names_free c.build-join.new.self b u (named_nodes name (Promise m) b) (named_lists name (Promise m) b (sym (none_listed (held_at name b.names) listless))) nodes in
     let listens = c.listen_each.ensures.stands u kept in
     let after = each_names (g.M.Names.stands c.set.new.self) (g.met.M.Names.nodes_free c.set.new.self) (source_trees sources) u set in

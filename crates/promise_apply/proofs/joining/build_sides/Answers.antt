@@ -1,12 +1,10 @@
-use Rattle.std.proofs.Common.{◌≡◌, ℕ, suc, ◌+◌, ◌≤◌, ◌<◌, ◌^◌, List, [], ◌∷◌, ◌++◌, None, Some, Bool, true, false, IsTrue, length, get_or, drop, refl, sym, ap, subst, ◌∙◌, arith}
+use Rattle.std.proofs.Common.{◌≡◌, ℕ, suc, ◌+◌, ◌≤◌, ◌<◌, List, [], ◌∷◌, ◌++◌, None, Bool, true, false, IsTrue, length, get_or, drop, refl, sym, ap, subst, ◌∙◌, arith}
 use Rattle.std.specs.Prelude.{nat_eq}
 use Rattle.std.proofs.lemmas.Bool.{false≢true}
 use Rattle.std.proofs.lemmas.Bool.Decides.{nat_tests}
 use Rattle.std.proofs.Math.Seq.{drop-cons}
-use Rattle.kj_base.specs.Places.{row, Row}
+use Rattle.kj_base.specs.Places.{row}
 use Rattle.kj_model.specs.Nodes.{is_in}
-use Rattle.kj_model.specs.World.{World}
-use Rattle.promise_names.specs.Held.{AreFree}
 use Rattle.promise_apply.specs.Building.{Both}
 use Rattle.promise_apply.specs.Joining.{AreSources, source_trees, tree_rows}
 use Rattle.kj_base.specs.declared.nodes.Link.{Link}

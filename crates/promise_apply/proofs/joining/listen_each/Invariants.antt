@@ -1,6 +1,5 @@
 use Rattle.std.proofs.Common.{◌≡◌, drop}
 use Rattle.kj_model.specs.World.{World}
-use Rattle.kj_model.specs.Effects.{each_listened}
 use Rattle.promise_nodes.specs.Kept.{OnlyFalls, OnlyRises}
 use Rattle.promise_apply.specs.Joining.{source_trees}
 use Rattle.promise_apply.proofs.Sided.{IsListening}

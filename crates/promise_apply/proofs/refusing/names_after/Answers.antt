@@ -1,4 +1,4 @@
-use Rattle.std.proofs.Common.{◌≡◌, arith}
+use Rattle.std.proofs.Common.{arith}
 use Rattle.promise_apply.specs.Uses.{uses_shown}
 use Rattle.promise_apply.proofs.Counted.{counted}
 use Rattle.promise_apply.proofs.refusing.names_after.Goals as goal

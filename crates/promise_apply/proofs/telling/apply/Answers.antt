@@ -7,6 +7,10 @@ use Rattle.promise_apply.specs.Applying.{DoesCommand}
 use Rattle.promise_apply.proofs.Told.{silent_does}
 use Rattle.promise_apply.proofs.telling.apply.Goals as goal
 
+pub returns-in-Clear-clause-applied : goal.returns-in-Clear-clause-applied
+returns-in-Clear-clause-applied g c =
+    subst (λ (x : CommandCase). DoesCommand (Both (g.N.Nodes.stands c.args.nodes.now) (g.M.Names.stands c.args.names.now)) (Both (g.N.Nodes.stands c.apply_clear.new.nodes) (g.M.Names.stands c.apply_clear.new.names)) g.N.Nodes.rule (refusal_of c.apply_clear.result) (command_of x) (g.S.Steps.told c.args.steps.now) (g.S.Steps.told c.apply_clear.new.steps)) (sym c.in-Clear.is) c.apply_clear.ensures.applied
+
 pub returns-in-Drop-clause-applied : goal.returns-in-Drop-clause-applied
 returns-in-Drop-clause-applied g c =
     subst (λ (x : CommandCase). DoesCommand (Both (g.N.Nodes.stands c.args.nodes.now) (g.M.Names.stands c.args.names.now)) (Both (g.N.Nodes.stands c.apply_drop.new.nodes) (g.M.Names.stands c.apply_drop.new.names)) g.N.Nodes.rule (refusal_of c.apply_drop.result) (command_of x) (g.S.Steps.told c.args.steps.now) (g.S.Steps.told c.apply_drop.new.steps)) (sym c.in-Drop.is) c.apply_drop.ensures.applied

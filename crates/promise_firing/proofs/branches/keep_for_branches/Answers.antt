@@ -4,7 +4,7 @@ use Rattle.kj_model.specs.Value.{freed}
 use Rattle.kj_model.specs.Fire.{keeps, kept_then, branches_announced}
 use Rattle.promise_walks.specs.Walks.{Both}
 use Rattle.promise_firing.specs.Outliving.{BranchesOutlive}
-use Rattle.promise_firing.proofs.Changing.{does_silent, does_less}
+use Rattle.promise_walks.proofs.Changing.{does_silent, does_less}
 use Rattle.promise_firing.proofs.Kept.{keeps_rest}
 use Rattle.promise_firing.proofs.Same.{branches_names, keeps_names, keeps_branches}
 use Rattle.promise_firing.proofs.branches.keep_for_branches.Goals as goal

@@ -10,7 +10,7 @@ use Rattle.promise_walks.specs.declared.land.Given.{Given}
 use Rattle.promise_walks.specs.Values.{given_of}
 use Rattle.promise_walks.proofs.Composed.{does_then}
 use Rattle.promise_firing.specs.Outliving.{MayEnd}
-use Rattle.promise_firing.proofs.Changing.{does_silent, does_less}
+use Rattle.promise_walks.proofs.Changing.{does_silent, does_less}
 use Rattle.promise_firing.proofs.Kept.{keeps_rest}
 use Rattle.promise_firing.proofs.Same.{listened_names}
 use Rattle.promise_firing.proofs.chain.end_chain.Goals as goal

@@ -6,9 +6,11 @@ use Rattle.promise_nodes.specs.Kept.{newest_task}
 use Rattle.promise_nodes.specs.Shown.{link_number}
 use Rattle.promise_walks.specs.Walks.{Both}
 use Rattle.promise_walks.proofs.Composed.{does_then}
-use Rattle.promise_firing.specs.Closed.{free_one, live_below}
-use Rattle.promise_firing.proofs.Changing.{does_on, does_more, does_ends}
-use Rattle.promise_firing.proofs.Emptied.{few_first, newest_goes, newest_lives, none_goes, no_newest, fewer_live}
+use Rattle.promise_walks.specs.Living.{live_below}
+use Rattle.promise_firing.specs.Closed.{free_one}
+use Rattle.promise_walks.proofs.Changing.{does_on, does_more, does_ends}
+use Rattle.promise_walks.proofs.Newest.{few_first, newest_lives, no_newest, fewer_live}
+use Rattle.promise_firing.proofs.Emptied.{newest_goes, none_goes}
 use Rattle.promise_firing.proofs.Kept.{keeps_same, keeps_then}
 use Rattle.promise_firing.proofs.closing.close_detached.Goals as goal
 

@@ -1,7 +1,7 @@
 use Rattle.std.proofs.Common.{◌≡◌, ◌≤◌, vec_capacity}
 use Rattle.kj_model.specs.Calls.{detached_closed}
 use Rattle.promise_walks.specs.Walks.{Both, Does}
-use Rattle.promise_firing.specs.Closed.{live_below}
+use Rattle.promise_walks.specs.Living.{live_below}
 use Rattle.promise_firing.specs.Ground.{Keeps, ground}
 use Rattle.promise_firing.proofs.closing.close_detached.Given as goal
 

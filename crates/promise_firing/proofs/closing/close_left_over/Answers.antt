@@ -6,7 +6,7 @@ use Rattle.promise_walks.specs.Walks.{Both, Does}
 use Rattle.promise_walks.proofs.Composed.{does_from}
 use Rattle.promise_firing.specs.Closed.{free_one, found_freed}
 use Rattle.kj_model.specs.Calls.{left_over_closed}
-use Rattle.promise_firing.proofs.Changing.{does_both}
+use Rattle.promise_walks.proofs.Changing.{does_both}
 use Rattle.promise_firing.proofs.Emptied.{both_freed}
 use Rattle.promise_firing.proofs.Kept.{keeps_then}
 use Rattle.promise_firing.proofs.closing.close_left_over.Goals as goal

@@ -1,7 +1,7 @@
 use Rattle.kj_model.specs.World.{World, State}
 use Rattle.kj_model.specs.Calls.{left_over_closed, names_closed, detached_closed, hubs_closed}
 use Rattle.promise_walks.specs.Walks.{Both}
-use Rattle.promise_firing.proofs.Changing.{does_both}
+use Rattle.promise_walks.proofs.Changing.{does_both}
 use Rattle.promise_firing.proofs.closing_all.close_all.Goals as goal
 
 pub returns-clause-does : goal.returns-clause-does

@@ -6,9 +6,10 @@ use Rattle.kj_model.specs.Calls.{hubs_of, hubs_closed}
 use Rattle.promise_nodes.specs.Shown.{link_number}
 use Rattle.promise_walks.specs.Walks.{Both}
 use Rattle.promise_walks.proofs.Composed.{does_then}
-use Rattle.promise_firing.specs.Closed.{free_hub, live_below}
-use Rattle.promise_firing.proofs.Changing.{does_onward, does_more, does_ends}
-use Rattle.promise_firing.proofs.Emptied.{few_first, fewer_live}
+use Rattle.promise_walks.specs.Living.{live_below}
+use Rattle.promise_firing.specs.Closed.{free_hub}
+use Rattle.promise_walks.proofs.Changing.{does_onward, does_more, does_ends}
+use Rattle.promise_walks.proofs.Newest.{few_first, fewer_live}
 use Rattle.promise_firing.proofs.Hubs.{oldest_lives, oldest_goes, no_hub_goes, no_oldest}
 use Rattle.promise_firing.proofs.Kept.{keeps_same, keeps_then}
 use Rattle.promise_firing.proofs.closing_all.close_hubs.Goals as goal

@@ -5,7 +5,7 @@ use Rattle.promise_names.specs.declared.names.Held.{Held}
 use Rattle.promise_names.specs.Held.{held_shown}
 use Rattle.promise_walks.specs.Walks.{Both}
 use Rattle.promise_walks.proofs.Composed.{does_from}
-use Rattle.promise_firing.proofs.Changing.{does_none}
+use Rattle.promise_walks.proofs.Changing.{does_none}
 use Rattle.promise_firing.proofs.closing_names.close_held.Goals as goal
 
 pub returns-in-CellOf-clause-does : goal.returns-in-CellOf-clause-does

@@ -6,7 +6,7 @@ use Rattle.kj_model.specs.Free.{Holding, free_to, reference_gone}
 use Rattle.promise_walks.specs.Walks.{Both}
 use Rattle.promise_walks.proofs.Composed.{does_from}
 use Rattle.promise_firing.specs.Closed.{free_one}
-use Rattle.promise_firing.proofs.Changing.{does_behind}
+use Rattle.promise_walks.proofs.Changing.{does_behind}
 use Rattle.promise_walks.proofs.Unnamed.{unnamed_names, unreferenced_same}
 use Rattle.promise_firing.proofs.closing_names.close_hub_name.Goals as goal
 

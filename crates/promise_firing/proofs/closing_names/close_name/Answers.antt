@@ -8,7 +8,7 @@ use Rattle.promise_names.specs.Held.{held_shown, SeesHeld}
 use Rattle.promise_walks.specs.Walks.{Both}
 use Rattle.promise_walks.proofs.Composed.{does_from}
 use Rattle.promise_firing.specs.Closed.{name_closed, set_closed}
-use Rattle.promise_firing.proofs.Changing.{does_behind, does_both, does_none}
+use Rattle.promise_walks.proofs.Changing.{does_behind, does_both, does_none}
 use Rattle.promise_firing.proofs.Sets.{no_name_first, tasks_first}
 use Rattle.promise_firing.proofs.closing_names.close_name.Goals as goal
 

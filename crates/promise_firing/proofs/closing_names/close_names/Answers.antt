@@ -5,7 +5,7 @@ use Rattle.promise_names.specs.Held.{name_number}
 use Rattle.promise_walks.specs.Walks.{Both}
 use Rattle.promise_walks.proofs.Composed.{does_then}
 use Rattle.promise_firing.specs.Closed.{name_closed}
-use Rattle.promise_firing.proofs.Changing.{does_onward, does_more, does_ends}
+use Rattle.promise_walks.proofs.Changing.{does_onward, does_more, does_ends}
 use Rattle.promise_firing.proofs.Named.{first_goes, no_name_goes, no_first}
 use Rattle.promise_firing.proofs.Kept.{keeps_same, keeps_then}
 use Rattle.promise_firing.proofs.closing_names.close_names.Goals as goal

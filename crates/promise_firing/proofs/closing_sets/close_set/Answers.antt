@@ -6,9 +6,10 @@ use Rattle.promise_nodes.specs.Shown.{link_number}
 use Rattle.promise_names.specs.Held.{IsSet}
 use Rattle.promise_walks.specs.Walks.{Both}
 use Rattle.promise_walks.proofs.Composed.{does_then}
-use Rattle.promise_firing.specs.Closed.{free_one, live_below, set_closed}
-use Rattle.promise_firing.proofs.Changing.{does_on, does_more, does_ends}
-use Rattle.promise_firing.proofs.Emptied.{few_first, newest_lives, no_newest, fewer_live}
+use Rattle.promise_walks.specs.Living.{live_below}
+use Rattle.promise_firing.specs.Closed.{free_one, set_closed}
+use Rattle.promise_walks.proofs.Changing.{does_on, does_more, does_ends}
+use Rattle.promise_walks.proofs.Newest.{few_first, newest_lives, no_newest, fewer_live}
 use Rattle.promise_firing.proofs.Kept.{keeps_same, keeps_then}
 use Rattle.promise_firing.proofs.Sets.{no_task_goes, set_stays, task_goes}
 use Rattle.promise_firing.proofs.closing_sets.close_set.Goals as goal

@@ -2,7 +2,8 @@ use Rattle.std.proofs.Common.{◌≡◌, ◌≤◌, vec_capacity}
 use Rattle.kj_model.specs.World.{held_at}
 use Rattle.promise_names.specs.Held.{IsSet}
 use Rattle.promise_walks.specs.Walks.{Both, Does}
-use Rattle.promise_firing.specs.Closed.{live_below, set_closed}
+use Rattle.promise_walks.specs.Living.{live_below}
+use Rattle.promise_firing.specs.Closed.{set_closed}
 use Rattle.promise_firing.specs.Ground.{Keeps, ground}
 use Rattle.promise_firing.proofs.closing_sets.close_set.Given as goal
 

@@ -3,7 +3,7 @@ use Rattle.kj_model.specs.World.{World, held_at}
 use Rattle.promise_walks.specs.Walks.{Both}
 use Rattle.promise_walks.proofs.Composed.{does_from}
 use Rattle.promise_firing.specs.Closed.{set_closed}
-use Rattle.promise_firing.proofs.Changing.{does_none}
+use Rattle.promise_walks.proofs.Changing.{does_none}
 use Rattle.promise_firing.proofs.Kept.{keeps_same}
 use Rattle.promise_firing.proofs.Sets.{sees_other, sees_set}
 use Rattle.promise_firing.proofs.closing_sets.close_tasks.Goals as goal

@@ -6,7 +6,7 @@ use Rattle.kj_model.specs.Value.{freed}
 use Rattle.kj_model.specs.Fire.{keeps, kept_then}
 use Rattle.promise_walks.specs.Walks.{Both}
 use Rattle.promise_firing.specs.Outliving.{Outlives}
-use Rattle.promise_firing.proofs.Changing.{does_silent, does_less}
+use Rattle.promise_walks.proofs.Changing.{does_silent, does_less}
 use Rattle.promise_firing.proofs.Kept.{keeps_rest}
 use Rattle.promise_firing.proofs.Same.{announced_names, keeps_names, keeps_live}
 use Rattle.promise_firing.proofs.keeping.keep_outcome.Goals as goal

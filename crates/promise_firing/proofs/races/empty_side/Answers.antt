@@ -7,7 +7,7 @@ use Rattle.promise_nodes.specs.Shown.{link_number}
 use Rattle.promise_walks.specs.Walks.{Both}
 use Rattle.promise_walks.proofs.Bare.{adds_none}
 use Rattle.promise_firing.specs.Stages.{MayBeSide, side_emptied}
-use Rattle.promise_firing.proofs.Changing.{does_silent, does_none}
+use Rattle.promise_walks.proofs.Changing.{does_silent, does_none}
 use Rattle.promise_firing.proofs.Fired.{maybe_kept, none_freed}
 use Rattle.promise_firing.proofs.races.empty_side.Goals as goal
 

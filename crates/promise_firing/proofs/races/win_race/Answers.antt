@@ -8,7 +8,7 @@ use Rattle.kj_model.specs.Fire.{race_won}
 use Rattle.promise_nodes.specs.Shown.{next_number}
 use Rattle.promise_walks.specs.Walks.{Both, Does}
 use Rattle.promise_firing.specs.Stages.{MayBeSide, MayWin, loser, race_decided, side_emptied}
-use Rattle.promise_firing.proofs.Changing.{does_silent, does_both, does_none}
+use Rattle.promise_walks.proofs.Changing.{does_silent, does_both, does_none}
 use Rattle.promise_firing.proofs.Fired.{decided_spares, same_freed}
 use Rattle.promise_firing.proofs.Same.{announced_names}
 use Rattle.promise_firing.proofs.races.win_race.Goals as goal

@@ -5,7 +5,7 @@ use Rattle.kj_model.specs.Fire.{keeps, kept_then, fast_announced}
 use Rattle.promise_walks.specs.Walks.{Both}
 use Rattle.promise_firing.specs.Outliving.{Outlives}
 use Rattle.promise_firing.specs.Stages.{sides_of}
-use Rattle.promise_firing.proofs.Changing.{does_silent, does_less}
+use Rattle.promise_walks.proofs.Changing.{does_silent, does_less}
 use Rattle.promise_firing.proofs.Same.{fast_names, keeps_names, keeps_others}
 use Rattle.promise_firing.proofs.sides.keep_side.Goals as goal
 

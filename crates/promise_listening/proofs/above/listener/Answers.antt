@@ -1,4 +1,4 @@
-use Rattle.std.proofs.Common.{◌≡◌, ◌∙◌, sym, ap, ◌-◌, ◌+◌, suc, ℕ, arith}
+use Rattle.std.proofs.Common.{◌≡◌, ◌∙◌, ap, ◌-◌, ◌+◌, suc, ℕ, arith}
 use Rattle.kj_model.specs.Listening.{listener_from}
 use Rattle.promise_listening.proofs.above.listener.Goals as goal
 

@@ -1,4 +1,4 @@
-use Rattle.std.proofs.Common.{◌≡◌, ℕ, Option, sym, subst}
+use Rattle.std.proofs.Common.{ℕ, Option, sym, subst}
 use Rattle.kj_model.specs.Changes.{arm_listener}
 use Rattle.promise_nodes.specs.Shown.{way_of}
 use Rattle.promise_listening.proofs.arming.announce.Goals as goal

@@ -1,6 +1,5 @@
-use Rattle.std.proofs.Common.{◌≡◌, ℕ, sym, subst, true, false, ◌∙◌}
+use Rattle.std.proofs.Common.{sym, subst}
 use Rattle.std.proofs.lemmas.Bool.{false≢true}
-use Rattle.kj_model.specs.World.{World}
 use Rattle.kj_model.specs.Nodes.{form_at}
 use Rattle.promise_nodes.specs.Shown.{way_of}
 use Rattle.promise_listening.proofs.Settled.{waiting_is, settled_is, cell_kept, cell_lives}

@@ -1,4 +1,4 @@
-use Rattle.std.proofs.Common.{◌≡◌, ℕ, ◌∙◌, sym, ◌<◌, arith}
+use Rattle.std.proofs.Common.{ℕ, ◌∙◌, sym, ◌<◌, arith}
 use Rattle.kj_model.specs.Nodes.{form_at}
 use Rattle.kj_model.specs.Listening.{waits}
 use Rattle.promise_listening.proofs.Sides.{found_first, found_later}

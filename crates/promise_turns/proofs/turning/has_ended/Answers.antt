@@ -1,8 +1,6 @@
 -- A tree that is left over tells that the loop has stopped.
 use Rattle.std.proofs.Common.{◌≡◌, ◌∙◌, sym, ap, refl, ℕ, List, [], ◌∷◌, Option, None, Some, Bool, true, false}
 use Rattle.std.specs.Prelude.{slice_get}
-use Rattle.kj_model.specs.World.{State}
-use Rattle.kj_ownership.specs.Kept.{Rests}
 use Rattle.promise_turns.proofs.turning.has_ended.Goals as goal
 
 no_place : (xs : List ℕ) (n : ℕ) → xs ≡ [] → slice_get xs 0 ≡ Some n → ⊥
@@ -17,5 +15,5 @@ stops true h = refl
 stops false h = absurd (h refl)
 
 pub returns-in-Some-clause-stopped : goal.returns-in-Some-clause-stopped
-returns-in-Some-clause-stopped g c = λ s stands rests.
-    stops s.world.stopped (λ runs. no_place (g.M.Names.over c.args.over.now.names) _ (sym (g.met.M.Names.over_is c.args.over.now.names s.world stands) ∙ rests.left_over runs) (ap (λ k. slice_get (g.M.Names.over k.names) 0) (sym c.over.view_is) ∙ ap (λ names. slice_get (g.M.Names.over names) 0) (sym c.names.ensures) ∙ sym c.in-Some.ensures))
+returns-in-Some-clause-stopped g c = λ w stands none.
+    stops w.stopped (λ runs. no_place (g.M.Names.over c.args.over.now.names) _ (sym (g.met.M.Names.over_is c.args.over.now.names w stands) ∙ none runs) (ap (λ k. slice_get (g.M.Names.over k.names) 0) (sym c.over.view_is) ∙ ap (λ names. slice_get (g.M.Names.over names) 0) (sym c.names.ensures) ∙ sym c.in-Some.ensures))

@@ -17,7 +17,7 @@ pub returns-then-has_ended-clause-turns : goal.returns-then-has_ended-clause-tur
 returns-then-has_ended-clause-turns g c =
     let A : World → Type 0 = Both (g.N.Nodes.stands c.args.over.now.nodes) (g.M.Names.stands c.args.over.now.names) in
     acts_silent A A g.N.Nodes.rule MayTurn turn (turned_as Stopped) (λ w. w) _ _
-    (λ setting s stands from. (stands, sym (stopped_is setting s (sym (c.if-has_ended.ensures.stopped s stands.1 from.1)))))
+    (λ setting s stands from. (stands, sym (stopped_is setting s (sym (c.if-has_ended.ensures.stopped s.world stands.1 from.1.left_over)))))
 
 pub returns-clause-turns : goal.returns-clause-turns
 returns-clause-turns g c =
@@ -25,10 +25,10 @@ returns-clause-turns g c =
     let B : World → Type 0 = Both (g.N.Nodes.stands c.take_turn.new.over.nodes) (g.M.Names.stands c.take_turn.new.over.names) in
     subst (λ (t : Turned). Acts A B g.N.Nodes.rule MayTurn turn (turned_as t) (g.S.Steps.told c.args.steps.now) (g.S.Steps.told c.take_turn.new.steps) (g.S.Steps.lacks c.args.steps.now) (g.S.Steps.lacks c.take_turn.new.steps)) (sym c.turned_by.ensures)
     (acts_less A B g.N.Nodes.rule RunsOn MayTurn turn (turned_as (turned_in c.take_turn.result)) _ _ _ _
-    (λ setting s stands from. (from, sym (c.if-has_ended.ensures.stopped s stands.1 from.1)))
+    (λ setting s stands from. (from, sym (c.if-has_ended.ensures.stopped s.world stands.1 from.1.left_over)))
     c.take_turn.ensures.turns)
 
 pub returns-clause-memory : goal.returns-clause-memory
 returns-clause-memory g c = λ answer s stands from.
     subst (λ (t : Turned). HasLacked (lacked_memory t) (g.S.Steps.lacks c.args.steps.now) (g.S.Steps.lacks c.take_turn.new.steps)) (sym c.turned_by.ensures)
-    (c.take_turn.ensures.memory answer s stands (from, sym (c.if-has_ended.ensures.stopped s stands.1 from.1)))
+    (c.take_turn.ensures.memory answer s stands (from, sym (c.if-has_ended.ensures.stopped s.world stands.1 from.1.left_over)))

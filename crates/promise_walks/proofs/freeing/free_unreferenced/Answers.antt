@@ -1,11 +1,10 @@
-use Rattle.std.proofs.Common.{◌≡◌, ◌∙◌, sym, ap, ℕ, ◌+◌, ◌<◌, [], ◌∷◌, Bool, true, false, refl, arith}
+use Rattle.std.proofs.Common.{◌≡◌, ◌∙◌, sym, ap, ℕ, ◌+◌, ◌<◌, [], Bool, true, false, arith}
 use Rattle.std.proofs.lemmas.List.{append-nil}
 use Rattle.kj_model.specs.Nodes.{form_at}
-use Rattle.kj_model.specs.World.{State}
 use Rattle.kj_model.specs.Free.{free_to, each_freed, is_guarded, reference_gone}
 use Rattle.promise_nodes.specs.Shown.{run_from}
 use Rattle.promise_nodes.specs.Kept.{is_unreferenced}
-use Rattle.promise_walks.specs.Walks.{Both, guard_of}
+use Rattle.promise_walks.specs.Walks.{guard_of}
 use Rattle.promise_walks.specs.Stacks.{falls_count}
 use Rattle.promise_walks.proofs.Composed.{does_from, hears_none}
 use Rattle.promise_walks.proofs.Entered.{unreferenced_counts}

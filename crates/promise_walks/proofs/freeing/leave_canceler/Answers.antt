@@ -1,5 +1,4 @@
 use Rattle.std.proofs.Common.{◌∙◌, subst, sym}
-use Rattle.kj_model.specs.World.{held_at}
 use Rattle.kj_model.specs.Free.{without_wrap}
 use Rattle.promise_walks.proofs.Left.{no_wrap, wrap_lists, wrap_nodes}
 use Rattle.promise_walks.proofs.freeing.leave_canceler.Goals as goal

@@ -3,7 +3,7 @@ use Rattle.kj_model.specs.World.{held_at}
 use Rattle.promise_names.specs.Held.{SeesHeld}
 use Rattle.promise_names.specs.declared.names.Held.{Held}
 use Rattle.name_table.specs.Table.{Table, Stands, view_of}
-use Rattle.name_table.proofs.Names.{sees}
+use Rattle.name_table.specs.Laws.{sees}
 use Rattle.name_table.proofs.table.NameTableNames.get.Goals as goal
 
 pub returns-clause-held : goal.returns-clause-held

@@ -23,9 +23,10 @@ invariant_of-self c =
     }
 
 pub returns-clause-stands : goal.returns-clause-stands
-returns-clause-stands c w st listless =
+returns-clause-stands c w members st listless counted =
     let inner : Stands (view_of c.self.inside) w = subst (λ (t : Table). Stands t w) (sym c.self.view_is) st in
-    set_stands c.args.name c.args.held c.put.new.entries.items (view_of c.self.inside) w (search rules) c.requires.kind c.put.ensures.items inner
+    set_stands c.args.name c.args.held members c.put.new.entries.items (view_of c.self.inside) w
+    (search rules) c.requires.kind counted c.put.ensures.items inner
 
 pub returns-clause-root : goal.returns-clause-root
 returns-clause-root c =

@@ -3,7 +3,7 @@ use Rattle.kj_model.specs.World.{held_at}
 use Rattle.promise_names.specs.Held.{SeesHeld, root_of}
 use Rattle.promise_names.specs.declared.names.Held.{Held}
 use Rattle.name_table.specs.Table.{Table, Stands, root_at}
-use Rattle.name_table.proofs.Names.{sees}
+use Rattle.name_table.specs.Laws.{sees}
 use Rattle.name_table.proofs.Awaited.{root_named}
 use Rattle.name_tree.specs.Kept.{view_of}
 use Rattle.name_tree.specs.Listed.{listed}

@@ -1,7 +1,5 @@
-use Rattle.std.proofs.Common.{List, ap, length, subst, sym, arith}
-use Rattle.std.proofs.lemmas.List.{length-map}
-use Rattle.kj_model.specs.World.{Named}
-use Rattle.name_table.specs.Entries.{shown_entry}
+use Rattle.std.proofs.Common.{ap, subst, sym, arith}
+use Rattle.name_table.proofs.Names.{as_many}
 use Rattle.name_table.specs.Table.{Table, Stands, count_of}
 use Rattle.name_tree.specs.Kept.{view_of}
 use Rattle.name_tree.specs.Listed.{listed}
@@ -23,9 +21,8 @@ returns-clause-awaited c =
 pub returns-clause-names : goal.returns-clause-names
 returns-clause-names c w st =
     let inner : Stands (view_of c.self.inside) w = subst (λ (t : Table). Stands t w) (sym c.self.view_is) st in
-    let is = ap (λ (names : List Named). length names) inner.names in
-    let many = length-map (listed c.self.inside.names.tree) shown_entry in
-    omega (arith, is, many, length_listed c.self.inside.names.tree, c.self.invariant.all, c.len.ensures)
+    let many = as_many (listed c.self.inside.names.tree) w.names inner.names in
+    omega (arith, many, length_listed c.self.inside.names.tree, c.self.invariant.all, c.len.ensures)
 
 pub returns-clause-bound : goal.returns-clause-bound
 returns-clause-bound c = omega (arith, c.self.invariant.all, c.self.invariant.counted, c.len.ensures)

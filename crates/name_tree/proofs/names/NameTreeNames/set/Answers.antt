@@ -47,9 +47,10 @@ invariant_of-self c =
     }
 
 pub returns-clause-stands : goal.returns-clause-stands
-returns-clause-stands c w st listless =
+returns-clause-stands c w members st listless counted =
     let inner : Stands (view_of c.self.inside) w = subst (λ (t : Table). Stands t w) (sym c.self.view_is) st in
-    set_stands c.args.name c.args.held (listed c.put-self-inside.new.names.tree) (view_of c.self.inside) w (search rules) c.requires.kind (list_is (goal.at.returns-clause-stands c).After-put-self-inside) inner
+    set_stands c.args.name c.args.held members (listed c.put-self-inside.new.names.tree) (view_of c.self.inside) w
+    (search rules) c.requires.kind counted (list_is (goal.at.returns-clause-stands c).After-put-self-inside) inner
 
 pub returns-clause-root : goal.returns-clause-root
 returns-clause-root c =

@@ -1,0 +1,4 @@
+pub mod Steps
+pub mod Actions
+pub mod Table
+pub mod Server
