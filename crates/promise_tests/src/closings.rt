@@ -3,11 +3,12 @@ ghost use Rattle.std.specs.Prelude.{◌≡◌, ◌≤◌, ◌<◌, ◌+◌, None
 ghost use Rattle.promise_names.specs.Held.{IsLoopsOwn, root_of};
 ghost use Rattle.name_table.specs.Table.{trees};
 
-use crate::calls::{Call, LIMITS, ROOM, close, make_all, told_by};
+use crate::calls::{Call, LIMITS, ROOM, close, refused, told_by};
 use crate::commands::{branch, chain, detach, eager, fork, later, pair};
 use crate::tables::{TableEvaluator, evaluator_over_tables};
 use crate::teller::{GIVES_FOUND, Teller, Told};
 use kj_base::{Name, NoMemory, NodeId};
+use promise_commands::Command;
 use promise_names::{Held, Names};
 use promise_turns::Turned;
 use std::alloc::Global;
@@ -165,16 +166,25 @@ fn hubs_over_their_own_branches_go_last(rt: HostRuntime) -> Result<(), Fail> {
     Ok(())
 }
 
-// What a closing frees after the promises of these two names were left over, if there are no other nodes.
+// These commands are applied in turn.
+fn apply_all(over: &mut TableEvaluator, commands: &[Command], steps: &mut Teller)
+    ensures over { trees over.new.names.over ≡ trees over.old.names.over }
+{
+    'applying: for command in commands {
+        refused(over, command, steps);
+    }
+}
+
+// What a closing frees after these commands, once the promises of these two names were left over.
 fn left_over(
     alloc: Global,
-    calls: &[Call],
+    commands: &[Command],
     first: u32,
     second: u32,
 ) -> Result<Vec<Told>, NoMemory> {
     let mut over = evaluator_over_tables(alloc, LIMITS)?;
     let mut steps = Teller::new(alloc, ROOM)?;
-    make_all(&mut over, calls, &mut steps);
+    apply_all(&mut over, commands, &mut steps);
     leave_over(&mut over, first);
     leave_over(&mut over, second);
     close(&mut over, &mut steps);
@@ -183,14 +193,10 @@ fn left_over(
 
 #[test]
 fn what_is_left_over_goes_first(rt: HostRuntime) -> Result<(), Fail> {
-    let calls = [
-        Call::Apply(later(1)),
-        Call::Apply(later(2)),
-        Call::Apply(later(3)),
-    ];
+    let commands = [later(1), later(2), later(3)];
     let told = [freed(3), freed(2), freed(1)];
     assert_eq!(rt;
-        left_over(rt.alloc(), &calls, 3, 2)?.as_slice(),
+        left_over(rt.alloc(), &commands, 3, 2)?.as_slice(),
         told.as_slice()
     );
     Ok(())

@@ -137,12 +137,16 @@ fn a_hub_goes_with_the_hub_above(rt: HostRuntime) -> Result<(), Fail> {
     Ok(())
 }
 
+// Whether this node would go with the members of this list.
+fn goes_with_members(over: &mut TableEvaluator, list: Name, node: u64) -> bool {
+    let keepers = &mut over.ground.keepers;
+    would_free_members(&mut keepers.nodes, &mut keepers.frames, list, link(node))
+}
+
 // Whether with the members of this list just those nodes would go whose numbers stand here, of the first seven.
 fn members_go_just(over: &mut TableEvaluator, list: Name, gone: &[u64]) -> bool {
-    let keepers = &mut over.ground.keepers;
     for node in 1..8u64 {
-        let goes = would_free_members(&mut keepers.nodes, &mut keepers.frames, list, link(node));
-        if goes != gone.contains(&node) {
+        if goes_with_members(over, list, node) != gone.contains(&node) {
             return false;
         }
     }
