@@ -18,4 +18,6 @@ pub mod ToldEffects
 pub mod ToldCommands
 pub mod ToldValues
 pub mod ToldTurns
+pub mod ToldWaits
+pub mod ToldTakings
 pub mod ToldCalls

@@ -28,7 +28,7 @@ rest_listed told (Some refused) rest s h g = g
 
 all_listed : (told : Tales) (setting : Setting) (cs : List Command) (s : State) → Listed told s.world → Listed told (all_applied setting cs s).0.world
 all_listed told setting [] s g = g
-all_listed told setting (c ∷ cs) s g = let r = apply setting true c s in rest_listed told r.1 (all_applied setting cs) r.0 (λ t h. all_listed told setting cs t h) (apply_listed setting true c s told g)
+all_listed told setting (c ∷ cs) s g = let r = apply setting true c s in rest_listed told r.1 (all_applied setting cs) r.0 (λ t h. all_listed told setting cs t h) (apply_listed setting c s told g)
 
 -- an ending
 taken_if : (told : Tales) (b : Bool) (name root : ℕ) (s : State) → held_at name s.world.names ≡ Some (PromiseOf root) → Listed told s.world → Listed told (took_if b name root s).0.world
