@@ -1,18 +1,17 @@
 -- What stays listed over single changes of a world.
-use Rattle.std.proofs.Common.{◌≡◌, ℕ, ◌+◌, ◌≤◌, ◌<◌, List, [], ◌∷◌, ◌++◌, Bool, true, false, not, cond, Option, None, Some, arith, refl, sym, ap, ◌∙◌, subst, ◌==◌}
+use Rattle.std.proofs.Common.{◌≡◌, ℕ, ◌+◌, ◌≤◌, ◌<◌, List, [], ◌∷◌, Bool, true, false, not, cond, Option, None, Some, arith, refl, sym, ap, ◌∙◌, subst, ◌==◌}
 use Rattle.std.specs.Prelude.{nat_eq, is_some, map}
 use Rattle.std.proofs.lemmas.Bool.{false≢true}
 use Rattle.std.proofs.lemmas.Bool.Decides.{nat_tests}
 use Rattle.kj_base.specs.Queue.{Way}
-use Rattle.kj_model.specs.Nodes.{Entry, Form, form_at, with_form, renamed}
+use Rattle.kj_model.specs.Nodes.{Entry, Form, form_at, with_form}
 use Rattle.kj_model.specs.World.{World, Named, Held, Promise, CellOf, AskCell, HubOf, Group, Canceler, RequestOf, Asked, Ended, held_at}
 use Rattle.kj_model.specs.Changes.{put, named, unnamed, with_new, without_name, gone_world}
 use Rattle.kj_model.specs.Places.{built}
 use Rattle.kj_model.specs.Listening.{announced, listened}
 use Rattle.kj_model.specs.Fire.{held_renamed, named_renamed, replaced}
 use Rattle.kj_model.specs.Framed.{times, name_numbers, NamesApart}
-use Rattle.kj_model.proofs.Spared.{same_number, form_put_same, form_put_other, form_without_other, form_without_same}
-use Rattle.kj_model.proofs.Once.{false_by}
+use Rattle.kj_model.proofs.Spared.{same_number, form_put_other, form_without_other, form_without_same}
 use Rattle.kj_model.proofs.Counts.{new_names, without_times, held_there}
 use Rattle.kj_ownership.specs.Owners.{is_live}
 use Rattle.kj_ownership.specs.Standing.{one_if}

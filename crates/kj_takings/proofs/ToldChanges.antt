@@ -1,16 +1,15 @@
 -- Changes of what one name holds and of the lists with it.
 use Rattle.std.proofs.Common.{◌≡◌, ℕ, ◌+◌, ◌≤◌, ◌<◌, List, [], ◌∷◌, ◌++◌, Bool, true, false, not, cond, ◌||◌, Option, None, Some, arith, refl, sym, ap, ◌∙◌, subst, ◌==◌, append_assoc}
-use Rattle.std.specs.Prelude.{nat_eq, map, filter}
-use Rattle.std.proofs.lemmas.Bool.{false≢true, or_parts}
+use Rattle.std.specs.Prelude.{nat_eq}
+use Rattle.std.proofs.lemmas.Bool.{false≢true}
 use Rattle.std.proofs.lemmas.Bool.Decides.{nat_tests}
 use Rattle.kj_base.specs.declared.outcomes.Outcome.{Outcome}
 use Rattle.kj_model.specs.Nodes.{Entry, dropped}
-use Rattle.kj_model.specs.World.{World, Named, Held, Promise, AskCell, RequestOf, Asked, Ended, held_at}
+use Rattle.kj_model.specs.World.{World, Named, Held, AskCell, RequestOf, Asked, Ended, held_at}
 use Rattle.kj_model.specs.Changes.{named, unnamed}
 use Rattle.kj_model.specs.Effects.{with_ask, with_ended, without_abandoned}
 use Rattle.kj_model.specs.Framed.{times, NamesApart}
 use Rattle.kj_model.proofs.Spared.{same_number}
-use Rattle.kj_model.proofs.Once.{false_by}
 use Rattle.kj_model.proofs.Counts.{times_app}
 use Rattle.kj_ownership.specs.Standing.{one_if}
 use Rattle.kj_ownership.proofs.Shapes.{held_named, held_unnamed}

@@ -1,6 +1,5 @@
 -- Each command leaves the lists so that they tell each once.
-use Rattle.std.proofs.Common.{◌≡◌, ℕ, ◌+◌, ◌≤◌, ◌<◌, List, [], ◌∷◌, ◌++◌, Bool, true, false, not, Option, None, Some, arith, refl, sym, ap, ◌∙◌, subst}
-use Rattle.std.specs.Prelude.{is_some}
+use Rattle.std.proofs.Common.{◌≡◌, ℕ, ◌+◌, ◌<◌, List, [], ◌∷◌, ◌++◌, Bool, true, false, not, Option, None, Some, arith, refl, sym, ap, subst}
 use Rattle.std.proofs.lemmas.Bool.{false≢true}
 use Rattle.kj_base.specs.declared.outcomes.Outcome.TheVariants.{Value, Broken as BrokenBy}
 use Rattle.kj_base.specs.Queue.{DepthFirst, BreadthFirst}
@@ -9,15 +8,14 @@ use Rattle.kj_model.specs.Nodes.{Form, Tree, Ready, Later as LaterNode, Last as 
 use Rattle.kj_model.specs.World.{World, State, Setting, Held, Promise, CellOf, AskCell, HubOf, Group, Canceler, RequestOf, held_at}
 use Rattle.kj_model.specs.Changes.{silent, named, unnamed}
 use Rattle.kj_model.specs.Places.{built}
-use Rattle.kj_model.specs.Listening.{listened, settled}
+use Rattle.kj_model.specs.Listening.{listened}
 use Rattle.kj_model.specs.Outcomes.{cancelled, fulfiller_dropped}
 use Rattle.kj_model.specs.Free.{Guard, free, usual}
-use Rattle.kj_model.specs.Effects.{node_named, leaf_built, over_built, over_named, with_branch_in, branch_built, trees_named, each_listened, wrapped_in, without_abandoned, sides_built, numbers_from, chain_built, fork_built, request_built, effect}
+use Rattle.kj_model.specs.Effects.{node_named, leaf_built, over_built, over_named, with_branch_in, trees_named, each_listened, wrapped_in, without_abandoned, sides_built, numbers_from, chain_built, fork_built, request_built, effect}
 use Rattle.kj_model.specs.Apply.{Refused, refusal, applied, apply}
 use Rattle.kj_model.specs.Uses.{is_outside, is_taken_ask}
-use Rattle.kj_model.specs.Framed.{times, name_numbers}
 use Rattle.kj_ownership.proofs.Moves.{built_grows}
-use Rattle.kj_ownership.proofs.Premises.{Allowed, allowed, found_none, new_absent, promise_is, cell_is, ask_is, request_is}
+use Rattle.kj_ownership.proofs.Premises.{Allowed, allowed, found_none, new_absent, promise_is, cell_is, request_is}
 use Rattle.kj_ownership.proofs.Makes.{over_sources}
 use Rattle.kj_takings.proofs.Told.{kind, Tales, Listed, Leaves, leaves_none, leaves_then, listened_leaves, put_leaves, built_leaves, named_leaves, unnamed_leaves, absent_kind}
 use Rattle.kj_takings.proofs.ToldFrees.{free_leaves}

@@ -1,10 +1,10 @@
 -- What stays listed over the parts of commands.
-use Rattle.std.proofs.Common.{◌≡◌, ℕ, ◌+◌, ◌≤◌, List, [], ◌∷◌, ◌++◌, Bool, true, false, Option, None, Some, refl, sym, ap, ◌∙◌}
+use Rattle.std.proofs.Common.{◌≡◌, ℕ, List, [], ◌∷◌, ◌++◌, false, Option, None, Some, refl, ap, ◌∙◌}
 use Rattle.std.specs.Prelude.{reverse}
 use Rattle.kj_base.specs.declared.outcomes.Outcome.{Outcome}
 use Rattle.kj_base.specs.Queue.{Way, DepthFirst}
-use Rattle.kj_model.specs.Nodes.{Form, Content, Tree, Kept, Waits, Ready, Cell, Wrap as WrapNode, Hub, Side, Task, form_at}
-use Rattle.kj_model.specs.World.{World, State, Named, Held, Promise, CellOf, HubOf, Group, Canceler, Awaited, held_at}
+use Rattle.kj_model.specs.Nodes.{Form, Tree, Kept, Waits, Ready, Cell, Wrap as WrapNode, Hub, Side, Task, form_at}
+use Rattle.kj_model.specs.World.{World, State, Held, Promise, HubOf, Group, Canceler, Awaited, held_at}
 use Rattle.kj_model.specs.Changes.{silent, put, named, unnamed}
 use Rattle.kj_model.specs.Places.{built}
 use Rattle.kj_model.specs.Listening.{announced, listened, settled, settled_form}

@@ -2,10 +2,9 @@
 use Rattle.std.proofs.Common.{◌≡◌, ℕ, zero, suc, ◌+◌, ◌≤◌, List, [], ◌∷◌, ◌++◌, Bool, true, false, not, cond, Option, None, Some, arith, refl, sym, ap, ◌∙◌, subst, ◌==◌, append_assoc}
 use Rattle.std.specs.Prelude.{nat_eq, is_some}
 use Rattle.std.proofs.lemmas.Bool.{false≢true}
-use Rattle.std.proofs.lemmas.Bool.Decides.{nat_tests}
 use Rattle.kj_model.specs.Nodes.{Form, Cell, Branch, Wrap, Hub, form_at, parts_of, dropped}
 use Rattle.kj_model.specs.World.{World, State, Named, Held, Promise, CellOf, AskCell, HubOf, Group, Canceler, RequestOf, held_at, depth_of}
-use Rattle.kj_model.specs.Changes.{silent, gone, gone_world, without_name}
+use Rattle.kj_model.specs.Changes.{silent, gone_world}
 use Rattle.kj_model.specs.Free.{Guard, is_guarded, free_unless, free_unreferenced, reference_gone, without_branch_in, without_branch, without_wrap_in, without_wrap, is_ask_of, ask_of, abandoned_as, each_freed, free_form, free_to, free}
 use Rattle.kj_model.specs.Framed.{times}
 use Rattle.kj_model.proofs.Spared.{same_number, form_without_same}
@@ -14,7 +13,7 @@ use Rattle.kj_ownership.specs.Owners.{is_live}
 use Rattle.kj_ownership.specs.Standing.{one_if}
 use Rattle.kj_ownership.proofs.Tasks.{found_name}
 use Rattle.kj_takings.specs.Told.{is_lost_ask, StartsWith}
-use Rattle.kj_takings.proofs.Told.{kind, Tales, Listed, Leaves, leaves_none, leaves_then, lost_more, put_leaves, gone_leaves, named_leaves}
+use Rattle.kj_takings.proofs.Told.{kind, Tales, Listed, Leaves, leaves_none, leaves_then, put_leaves, gone_leaves, named_leaves}
 
 abbrev pub EachLeaves : (ℕ → State → State) → Type 0
 EachLeaves f = (n : ℕ) (s : State) → Leaves s.world (f n s).world

@@ -1,5 +1,5 @@
 -- A taking call tells the first of its list, which is listed no more.
-use Rattle.std.proofs.Common.{◌≡◌, ℕ, ◌+◌, ◌≤◌, ◌<◌, List, [], ◌∷◌, ◌++◌, Bool, true, false, not, cond, ◌||◌, ◌&&◌, Option, None, Some, arith, refl, sym, ap, ◌∙◌, subst, ◌==◌}
+use Rattle.std.proofs.Common.{◌≡◌, ℕ, ◌+◌, ◌≤◌, ◌<◌, List, [], ◌∷◌, Bool, true, false, not, cond, ◌||◌, ◌&&◌, Option, None, Some, arith, refl, sym, ap, ◌∙◌, subst, ◌==◌}
 use Rattle.std.specs.Prelude.{nat_eq, filter}
 use Rattle.std.proofs.lemmas.Bool.{false≢true}
 use Rattle.std.proofs.lemmas.Bool.Decides.{nat_tests}
@@ -7,12 +7,11 @@ use Rattle.std.proofs.lemmas.List.{append-nil}
 use Rattle.kj_model.specs.Nodes.{Entry}
 use Rattle.kj_model.specs.World.{World, Held, AskCell, RequestOf, Asked, Ended, held_at}
 use Rattle.kj_model.specs.Changes.{named, unnamed}
-use Rattle.kj_model.specs.Calls.{ask_taken_in, take_ask_of, take_ended_of, take_abandoned_of}
 use Rattle.kj_model.specs.Framed.{times}
 use Rattle.kj_model.proofs.Spared.{same_number}
 use Rattle.kj_ownership.specs.Standing.{one_if}
-use Rattle.kj_takings.specs.Told.{ask_cells, ended_names, is_untaken, is_request, has_ended, is_lost_ask, ask_node, asks_but, StartsWith}
-use Rattle.kj_takings.proofs.Told.{kind, Tales, Listed, new_apart}
+use Rattle.kj_takings.specs.Told.{ask_cells, ended_names, is_untaken, is_request, has_ended, is_lost_ask, ask_node, StartsWith}
+use Rattle.kj_takings.proofs.Told.{Tales, Listed, new_apart}
 use Rattle.kj_takings.proofs.ToldChanges.{changed, forgotten, same_times, same_here, other_named, named_here, let_go, gone_stays, other_stays}
 
 pub whole : {A : Type 0} (xs : List A) → StartsWith xs xs
@@ -56,10 +55,10 @@ abbrev pub and_told : ℕ → (ℕ → Bool) → ℕ → Bool
 and_told p told n = (p == n) || told n
 
 told_before : (p q : ℕ) (told : ℕ → Bool) → and_told p told q ≡ true → (p ≡ q → ⊥) → told q ≡ true
-told_before p q told t no = decide (nat_eq p q) refl
+told_before p q told t apart = decide (nat_eq p q) refl
   where
     decide : (b : Bool) → nat_eq p q ≡ b → told q ≡ true
-    decide true e = absurd (no (sym (same_number p q e)))
+    decide true e = absurd (apart (sym (same_number p q e)))
     decide false e = sym (ap (λ (b : Bool). b || told q) e) ∙ t
 
 told_or : (P : ℕ → Type 0) (p q : ℕ) (told : ℕ → Bool) → and_told p told q ≡ true → P p → (told q ≡ true → P q) → P q
@@ -253,7 +252,14 @@ pub first_ask : (told : Tales) (a : Asked) (more : List Asked) (w : World) → w
 first_ask told a more w is g = untaken_is (held_at a.cell w.names) (times a.cell (ask_cells more)) (sym (first_here a.cell (ask_cells more)) ∙ ap (λ (xs : List Asked). times a.cell (ask_cells xs)) (sym is) ∙ g.asks a.cell)
 
 pub first_end : (told : Tales) (x : Ended) (more : List Ended) (w : World) → told.pending ≡ [] → w.ended ≡ x ∷ more → Listed told w → held_at x.request w.names ≡ Some (RequestOf None)
-first_end told x more w none is g = ended_is (held_at x.request w.names) (times x.request (ended_names more)) (sym (first_here x.request (ended_names more)) ∙ ap (λ (xs : List Ended). times x.request (ended_names xs)) (sym is) ∙ ap (λ (xs : List ℕ). times x.request xs + times x.request (ended_names w.ended)) (sym none) ∙ g.ended x.request)
+first_end told x more w none is g = ended_is (held_at x.request w.names) (times x.request (ended_names more)) count
+  where
+    count : 1 + times x.request (ended_names more) ≡ one_if (has_ended (held_at x.request w.names))
+    count =
+        let a = g.ended x.request in
+        let b : times x.request told.pending ≡ 0 = ap (times x.request) none in
+        let d : times x.request (ended_names w.ended) ≡ 1 + times x.request (ended_names more) = ap (λ (xs : List Ended). times x.request (ended_names xs)) is ∙ first_here x.request (ended_names more) in
+        omega (arith, a, b, d)
 
 pub first_cell : (told : Tales) (c : ℕ) (more : List ℕ) (w : World) → w.abandoned ≡ c ∷ more → Listed told w → (p : ℕ) × (b : Bool) × (held_at c w.names ≡ Some (AskCell p b))
 first_cell told c more w is g = lost_is w.nodes (held_at c w.names) (times c more) (subst (λ (n : ℕ). n ≤ one_if (is_lost_ask w.nodes (held_at c w.names))) (ap (times c) is ∙ first_here c more) (g.abandoned c))

@@ -1,5 +1,5 @@
 -- A wait leaves the lists so that they tell each once.
-use Rattle.std.proofs.Common.{zero, suc, ◌≡◌, ℕ, List, [], ◌∷◌, Bool, true, false, Option, None, Some, refl, sym, ap, ◌∙◌, ◌==◌}
+use Rattle.std.proofs.Common.{zero, suc, ◌≡◌, ℕ, ◌∷◌, Bool, true, false, Option, None, Some, refl, ap, ◌==◌}
 use Rattle.kj_base.specs.declared.outcomes.Outcome.{Outcome}
 use Rattle.kj_base.specs.Queue.{head_of}
 use Rattle.kj_model.specs.World.{World, State, Setting, Held, Promise, Awaited, held_at}
@@ -8,7 +8,7 @@ use Rattle.kj_model.specs.Effects.{disarmed_node}
 use Rattle.kj_model.specs.Free.{usual}
 use Rattle.kj_model.specs.Uses.{is_name}
 use Rattle.kj_model.specs.Value.{value, freed}
-use Rattle.kj_model.specs.Calls.{Turned, Fired, Idle, NoMemory, Stopped, turn, Waited, with_awaited, held_awaited, lost_in, lost, awaited_freed, wait_valued, wait_value_at, wait_done, name_back, let_go_of, let_go, wait_turned, wait_turn, wait_more, wait_held, wait_unless, wait}
+use Rattle.kj_model.specs.Calls.{Turned, Fired, Idle, NoMemory, Stopped, turn, Waited, with_awaited, held_awaited, lost_in, lost, awaited_freed, wait_valued, wait_value_at, name_back, let_go_of, let_go, wait_turned, wait_turn, wait_more, wait_held, wait_unless, wait}
 use Rattle.kj_model.specs.Listening.{listened}
 use Rattle.kj_ownership.specs.Fits.{Fits}
 use Rattle.kj_ownership.specs.Kept.{Rests}

@@ -73,7 +73,7 @@ is_begin_of r other = false
 
 -- the request of this name began
 abbrev pub begins : ℕ → Call → ReplyOf → Bool
-begins r c reply = is_begin_of r c && is_done reply
+begins r c reply = is_done reply && is_begin_of r c
 
 -- a reply that tells its end
 abbrev pub tells_end : ℕ → ReplyOf → Bool
@@ -92,7 +92,7 @@ ends_told r replies = total (λ reply. one_if (tells_end r reply)) replies
 
 -- whether a name is a request's after a call, by whether it was before it
 abbrev pub request_after : ℕ → Call → ReplyOf → Bool → Bool
-request_after r c reply was = (begins r c reply || was) && not (tells_end r reply)
+request_after r c reply was = not (tells_end r reply) && (begins r c reply || was)
 
 -- a call that asks for a reply to this cell
 abbrev pub is_reply_to : ℕ → Call → Bool
@@ -106,7 +106,7 @@ tells_lost name other = false
 
 -- the name of an ask's cell goes with its reply, or where it is told as abandoned
 abbrev pub lets_go : ℕ → Call → ReplyOf → Bool
-lets_go name c reply = is_reply_to name c && is_done reply || tells_lost name reply
+lets_go name c reply = tells_lost name reply || (is_done reply && is_reply_to name c)
 
 -- the asks but those of this cell
 abbrev pub asks_but : List ℕ → List Asked → List Asked
