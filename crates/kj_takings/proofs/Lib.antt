@@ -21,3 +21,5 @@ pub mod ToldTurns
 pub mod ToldWaits
 pub mod ToldTakings
 pub mod ToldCalls
+pub mod ToldLoops
+pub mod ToldLaws

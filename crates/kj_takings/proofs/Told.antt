@@ -52,7 +52,7 @@ pub record Listed (told : Tales) (w : World) : Type 0 where
   pub abandoned : (c : ℕ) → times c w.abandoned ≤ one_if (is_lost_ask w.nodes (held_at c w.names))
   pub cells : (c d p : ℕ) (a b : Bool) → held_at c w.names ≡ Some (AskCell p a) → held_at d w.names ≡ Some (AskCell p b) → c ≡ d
   pub built : (c p : ℕ) (b : Bool) → held_at c w.names ≡ Some (AskCell p b) → p < w.next
-  pub taken : (c p : ℕ) (b : Bool) → held_at c w.names ≡ Some (AskCell p b) → told.asks p ≡ true → b ≡ true
+  pub taken : (c p : ℕ) (b : Bool) → held_at c w.names ≡ Some (AskCell p b) → told.asks p ≡ b
   pub untold : (c p : ℕ) (b : Bool) → held_at c w.names ≡ Some (AskCell p b) → told.lost p ≡ true → ⊥
   pub old_asks : (p : ℕ) → told.asks p ≡ true → p < w.next
   pub old_lost : (p : ℕ) → told.lost p ≡ true → p < w.next

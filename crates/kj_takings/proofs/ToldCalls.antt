@@ -17,6 +17,7 @@ use Rattle.kj_ownership.proofs.Calls.{rests_of}
 use Rattle.kj_ownership.proofs.Premises.{allowed, found_none, new_absent}
 use Rattle.kj_takings.specs.Told.{ask_cells, ended_names, is_request, has_request, has_ended, is_lost_ask, ask_node, is_begin_of, is_done, begins, begun, tells_end, ends_told, request_after, lets_go, asks_but, asks_left, ended_left, abandoned_left, StartsWith, NoneCloses, IsReached, first_asked, first_lost, ask_told, lost_told, told_in, TellsOnce}
 use Rattle.kj_takings.proofs.Told.{Tales, Listed, absent_kind, same_request}
+use Rattle.kj_takings.proofs.ToldChanges.{no_true}
 use Rattle.kj_takings.proofs.ToldCommands.{told_if, command_listed}
 use Rattle.kj_takings.proofs.ToldTakings.{whole, and_told, ask_tale, end_tale, lost_tale, ask_told_listed, end_told_listed, lost_told_listed, first_ask, first_end, first_cell}
 use Rattle.kj_takings.proofs.ToldTurns.{turn_listed, run_listed}
@@ -51,7 +52,7 @@ told_spent CallTakeAbandoned w g = λ cell more is. lost_spent w.nodes (held_at 
 told_spent _ w g = tt
 
 -- a new loop
-no_tales : Tales
+abbrev pub no_tales : Tales
 no_tales = record { asks = λ p. false; lost = λ p. false; pending = []; requests = λ n. false; cells = λ n. None; first_asks = []; first_ended = []; first_lost = [] }
 
 no_cell : (p : ℕ) (b : Bool) → ◌≡◌ {A = Option Held} None (Some (AskCell p b)) → ⊥
@@ -60,8 +61,7 @@ no_cell p b e = cc
 no_number : (p : ℕ) → ◌≡◌ {A = Option ℕ} None (Some p) → ⊥
 no_number p e = cc
 
-new_listed : (limits : Limits) → Listed no_tales (new_world limits)
-unfolding no_tales
+pub new_listed : (limits : Limits) → Listed no_tales (new_world limits)
 new_listed limits = record {
   apart = λ c. omega arith;
   asks = λ c. refl;
@@ -69,7 +69,7 @@ new_listed limits = record {
   abandoned = λ c. omega arith;
   cells = λ c d p a b e f. absurd (no_cell p a e);
   built = λ c p b e. absurd (no_cell p b e);
-  taken = λ c p b e t. absurd (no_cell p b e);
+  taken = λ c p b e. absurd (no_cell p b e);
   untold = λ c p b e t. no_cell p b e;
   old_asks = λ p t. absurd (false≢true t);
   old_lost = λ p t. absurd (false≢true t);
@@ -84,7 +84,7 @@ new_listed limits = record {
 abbrev pub afresh : World → Tales → Tales
 afresh w told = record told { cells = λ n. ask_node (held_at n w.names); first_asks = w.asks; first_ended = w.ended; first_lost = w.abandoned }
 
-afresh_listed : (told : Tales) (w : World) → Listed told w → Listed (afresh w told) w
+pub afresh_listed : (told : Tales) (w : World) → Listed told w → Listed (afresh w told) w
 afresh_listed told w g = record {
   apart = g.apart;
   asks = g.asks;
@@ -241,10 +241,6 @@ told_more p q told e = decide (nat_eq p q) refl
     decide true d = here d (ap told (Rattle.kj_model.proofs.Spared.same_number p q d) ∙ e)
     decide false d = grind (arith, nat_tests)
 
-no_true : (b : Bool) → (b ≡ true → ⊥) → b ≡ false
-no_true true h = absurd (h refl)
-no_true false h = refl
-
 ask_goes : (told : Tales) (xs : List Asked) (w : World) → w.asks ≡ xs → Listed told w → Goes told CallTakeAsk (TookAsk (take_ask_of xs w).1) w (take_ask_of xs w).0
 ask_goes told [] w is g = record {
   after = told;
@@ -270,7 +266,7 @@ ask_goes told (a ∷ more) w is g =
       requests = λ n. refl;
       new = λ n b. absurd (false≢true b);
       was = λ n e. absurd (false≢true e);
-      asks = λ p. told_more h.0 p told.asks (no_true (told.asks h.0) (λ t. false≢true (g.taken a.cell h.0 false at t))) ∙ ap (λ (ns : List ℕ). times p ns + one_if (told.asks p)) (sym (ap (λ (ys : List Asked). first_asked ys w) is ∙ ap Rattle.kj_takings.specs.Told.cell_node at));
+      asks = λ p. told_more h.0 p told.asks (g.taken a.cell h.0 false at) ∙ ap (λ (ns : List ℕ). times p ns + one_if (told.asks p)) (sym (ap (λ (ys : List Asked). first_asked ys w) is ∙ ap Rattle.kj_takings.specs.Told.cell_node at));
       lost = λ p. omega arith;
       cells = λ n p e t. t;
       first_asks = λ e. sym (ap (λ (ys : List Asked). drop 1 ys) is);

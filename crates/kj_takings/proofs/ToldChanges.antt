@@ -21,7 +21,7 @@ use Rattle.kj_takings.proofs.Told.{kind, kind_ask, running, same_untaken, same_e
 -- the cell of an ask under the name that changed: built, told of as it stands, and under no other name
 pub record CellHere (told : Tales) (c p : ℕ) (b : Bool) (next : ℕ) (names : List Named) : Type 0 where
   pub built : p < next
-  pub taken : told.asks p ≡ true → b ≡ true
+  pub taken : told.asks p ≡ b
   pub untold : told.lost p ≡ true → ⊥
   pub alone : (d : ℕ) (a : Bool) → nat_eq c d ≡ false → held_at d names ≡ Some (AskCell p a) → ⊥
 
@@ -38,7 +38,7 @@ pub record ChangesAt (c : ℕ) (before after : Tales) (w v : World) : Type 0 whe
   pub ended_here : times c after.pending + times c (ended_names v.ended) ≡ one_if (has_ended (held_at c v.names))
   pub abandoned_here : times c v.abandoned ≤ one_if (is_lost_ask v.nodes (held_at c v.names))
   pub cell_here : (p : ℕ) (b : Bool) → held_at c v.names ≡ Some (AskCell p b) → CellHere after c p b v.next w.names
-  pub taken : (d p : ℕ) (b : Bool) → nat_eq c d ≡ false → held_at d w.names ≡ Some (AskCell p b) → after.asks p ≡ true → b ≡ true
+  pub taken : (d p : ℕ) (b : Bool) → nat_eq c d ≡ false → held_at d w.names ≡ Some (AskCell p b) → after.asks p ≡ b
   pub untold : (d p : ℕ) (b : Bool) → nat_eq c d ≡ false → held_at d w.names ≡ Some (AskCell p b) → after.lost p ≡ true → ⊥
   pub old_asks : (p : ℕ) → after.asks p ≡ true → p < v.next
   pub old_lost : (p : ℕ) → after.lost p ≡ true → p < v.next
@@ -96,7 +96,7 @@ changed c before after w v h g = record {
     here : (d p : ℕ) (b : Bool) → nat_eq c d ≡ true → held_at d v.names ≡ Some (AskCell p b) → CellHere after c p b v.next w.names
     here d p b e x = h.cell_here p b (subst (λ (k : ℕ). held_at k v.names ≡ Some (AskCell p b)) (same_number c d e) x)
 
-    cell : (d p : ℕ) (b : Bool) → held_at d v.names ≡ Some (AskCell p b) → (q : Bool) → nat_eq c d ≡ q → (p < v.next) × (after.asks p ≡ true → b ≡ true) × (after.lost p ≡ true → ⊥)
+    cell : (d p : ℕ) (b : Bool) → held_at d v.names ≡ Some (AskCell p b) → (q : Bool) → nat_eq c d ≡ q → (p < v.next) × (after.asks p ≡ b) × (after.lost p ≡ true → ⊥)
     cell d p b x true e = let k = here d p b e x in (k.built, k.taken, k.untold)
     cell d p b x false e =
         let y = sym (h.others d e) ∙ x in
@@ -187,6 +187,10 @@ no_stay o p e h = no_number p (sym (same_node None o e) ∙ h)
 not_running : (o : Option Held) (p : ℕ) → kind o ≡ running → ask_node o ≡ Some p → ⊥
 not_running o p e h = no_stay None p refl (sym (same_node running o e) ∙ h)
 
+pub no_true : (b : Bool) → (b ≡ true → ⊥) → b ≡ false
+no_true true h = absurd (h refl)
+no_true false h = refl
+
 pub ask_listed : (told : Tales) (c target step : ℕ) (words : List ℕ) (w v : World) → Leaves w v → w.next < v.next → kind (held_at c w.names) ≡ None → Listed told w → Listed told (with_ask c target step words (named c (AskCell w.next false) v))
 ask_listed told c target step words w v l grows new g = changed c told told v x (record {
   nodes = refl;
@@ -200,7 +204,7 @@ ask_listed told c target step words w v l grows new g = changed c told told v x 
   ended_here = k.ended c ∙ free.ended ∙ ap (λ o. one_if (has_ended o)) (sym (named_here c held v));
   abandoned_here = (let a = k.abandoned c in let b = free.lost v.nodes in omega (arith, a, b));
   cell_here = λ p b e. here p b (cell_is w.next p false b (sym (named_here c held v) ∙ e));
-  taken = λ d p b e f t. k.taken d p b f t;
+  taken = λ d p b e f. k.taken d p b f;
   untold = λ d p b e f t. k.untold d p b f t;
   old_asks = k.old_asks;
   old_lost = k.old_lost;
@@ -242,7 +246,7 @@ ask_listed told c target step words w v l grows new g = changed c told told v x 
     here : (p : ℕ) (b : Bool) → (p ≡ w.next) × (b ≡ false) → CellHere told c p b v.next v.names
     here p b e = record {
       built = (let a = e.0 in omega (arith, a, grows));
-      taken = λ t. absurd (less p (g.old_asks p t) e.0);
+      taken = no_true (told.asks p) (λ t. less p (g.old_asks p t) e.0) ∙ sym e.1;
       untold = λ t. less p (g.old_lost p t) e.0;
       alone = λ d a f at. less p (g.built d p a (kind_ask (held_at d w.names) p a (sym (l.kinds d) ∙ ap kind at))) e.0;
     }
@@ -275,7 +279,7 @@ begin_listed told c n w new g = changed c told (begun_by c told) w v (record {
   ended_here = g.ended c ∙ free.ended ∙ ap (λ o. one_if (has_ended o)) (sym (named_here c held w));
   abandoned_here = (let a = g.abandoned c in let b = free.lost w.nodes in omega (arith, a, b));
   cell_here = λ p b e. absurd (no_ask (Some n) p b (sym (named_here c held w) ∙ e));
-  taken = λ d p b e f t. g.taken d p b f t;
+  taken = λ d p b e f. g.taken d p b f;
   untold = λ d p b e f t. g.untold d p b f t;
   old_asks = g.old_asks;
   old_lost = g.old_lost;
@@ -314,7 +318,7 @@ end_pends told c w runs g = changed c told (pending c told) w v (record {
   ended_here = ends;
   abandoned_here = (let a = g.abandoned c in let b = free.lost w.nodes in omega (arith, a, b));
   cell_here = λ p b e. absurd (no_ask None p b (sym (named_here c (RequestOf None) w) ∙ e));
-  taken = λ d p b e f t. g.taken d p b f t;
+  taken = λ d p b e f. g.taken d p b f;
   untold = λ d p b e f t. g.untold d p b f t;
   old_asks = g.old_asks;
   old_lost = g.old_lost;
@@ -367,7 +371,7 @@ pub record Forgets (c : ℕ) (before after : Tales) (asks : List Asked) (ended :
   pub asks_gone : (d : ℕ) → times d (ask_cells asks) ≡ cond (c == d) 0 (times d (ask_cells w.asks))
   pub ended_gone : (d : ℕ) → times d after.pending + times d (ended_names ended) ≡ cond (c == d) 0 (times d before.pending + times d (ended_names w.ended))
   pub abandoned_gone : (d : ℕ) → times d abandoned ≡ cond (c == d) 0 (times d w.abandoned)
-  pub taken : (d p : ℕ) (b : Bool) → nat_eq c d ≡ false → held_at d w.names ≡ Some (AskCell p b) → after.asks p ≡ true → b ≡ true
+  pub taken : (d p : ℕ) (b : Bool) → nat_eq c d ≡ false → held_at d w.names ≡ Some (AskCell p b) → after.asks p ≡ b
   pub untold : (d p : ℕ) (b : Bool) → nat_eq c d ≡ false → held_at d w.names ≡ Some (AskCell p b) → after.lost p ≡ true → ⊥
   pub old_asks : (p : ℕ) → after.asks p ≡ true → p < w.next
   pub old_lost : (p : ℕ) → after.lost p ≡ true → p < w.next
@@ -438,7 +442,7 @@ reply_listed told c p w at g = forgotten c told (replied_to c told) w.asks w.end
   asks_gone = λ d. same_times c d (times d (ask_cells w.asks)) (λ e. subst (λ (k : ℕ). times k (ask_cells w.asks) ≡ 0) e no_asks);
   ended_gone = λ d. same_times c d (times d told.pending + times d (ended_names w.ended)) (λ e. subst (λ (k : ℕ). times k told.pending + times k (ended_names w.ended) ≡ 0) e no_ends);
   abandoned_gone = λ d. dropped_times c d w.abandoned ∙ drops d (nat_eq c d) refl;
-  taken = λ d q b e f t. g.taken d q b f t;
+  taken = λ d q b e f. g.taken d q b f;
   untold = λ d q b e f t. g.untold d q b f t;
   old_asks = g.old_asks;
   old_lost = g.old_lost;

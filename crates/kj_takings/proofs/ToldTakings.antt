@@ -61,6 +61,16 @@ told_before p q told t apart = decide (nat_eq p q) refl
     decide true e = absurd (apart (sym (same_number p q e)))
     decide false e = sym (ap (λ (b : Bool). b || told q) e) ∙ t
 
+told_as_before : (p q : ℕ) (told : ℕ → Bool) → (p ≡ q → ⊥) → and_told p told q ≡ told q
+told_as_before p q told apart = decide (nat_eq p q) refl
+  where
+    decide : (b : Bool) → nat_eq p q ≡ b → and_told p told q ≡ told q
+    decide true e = absurd (apart (sym (same_number p q e)))
+    decide false e = ap (λ (b : Bool). b || told q) e
+
+yes_told : (p : ℕ) (told : ℕ → Bool) → and_told p told p ≡ true
+yes_told p told = ap (λ (b : Bool). b || told p) (same_here p)
+
 told_or : (P : ℕ → Type 0) (p q : ℕ) (told : ℕ → Bool) → and_told p told q ≡ true → P p → (told q ≡ true → P q) → P q
 told_or P p q told t h k = decide (nat_eq p q) refl
   where
@@ -100,11 +110,11 @@ ask_told_listed told a more p w is at g = changed c told (ask_tale p more told) 
   abandoned_here = (let x = g.abandoned c in let y : one_if (is_lost_ask w.nodes (held_at c w.names)) ≡ one_if (is_lost_ask w.nodes (held_at c v.names)) = ap (λ o. one_if (is_lost_ask w.nodes o)) at ∙ ap (λ o. one_if (is_lost_ask w.nodes o)) (sym (named_here c held w)) in omega (arith, x, y));
   cell_here = λ q b e. (let y = no_cell p q true b (sym (named_here c held w) ∙ e) in record {
     built = subst (λ (k : ℕ). k < w.next) (sym y.0) (g.built c p false at);
-    taken = λ t. y.1;
+    taken = subst (λ (k : ℕ). and_told p told.asks k ≡ b) (sym y.0) (yes_told p told.asks ∙ sym y.1);
     untold = λ t. g.untold c p false at (subst (λ (k : ℕ). told.lost k ≡ true) y.0 t);
     alone = λ d f n h. differs c d n (g.cells c d p false f at (subst (λ (k : ℕ). held_at d w.names ≡ Some (AskCell k f)) y.0 h));
   });
-  taken = λ d q b e h t. g.taken d q b h (told_before p q told.asks t (λ s. differs c d e (g.cells c d p false b at (subst (λ (k : ℕ). held_at d w.names ≡ Some (AskCell k b)) (sym s) h))));
+  taken = λ d q b e h. told_as_before p q told.asks (λ s. differs c d e (g.cells c d p false b at (subst (λ (k : ℕ). held_at d w.names ≡ Some (AskCell k b)) (sym s) h))) ∙ g.taken d q b h;
   untold = λ d q b e h t. g.untold d q b h t;
   old_asks = λ q t. told_or (λ (k : ℕ). k < w.next) p q told.asks t (g.built c p false at) (g.old_asks q);
   old_lost = g.old_lost;
@@ -153,7 +163,7 @@ end_told_listed told x more w is at g = forgotten c told (end_tale c more told) 
   asks_gone = λ d. same_times c d (times d (ask_cells w.asks)) (λ e. subst (λ (k : ℕ). times k (ask_cells w.asks) ≡ 0) e no_asks);
   ended_gone = λ d. gone d (nat_eq c d) refl;
   abandoned_gone = λ d. same_times c d (times d w.abandoned) (λ e. subst (λ (k : ℕ). times k w.abandoned ≡ 0) e no_lost);
-  taken = λ d q b e f t. g.taken d q b f t;
+  taken = λ d q b e f. g.taken d q b f;
   untold = λ d q b e f t. g.untold d q b f t;
   old_asks = g.old_asks;
   old_lost = g.old_lost;
@@ -217,7 +227,7 @@ lost_told_listed told c more p f w is at g = forgotten c told (lost_tale c p ask
   asks_gone = λ d. asks_without c d w.asks;
   ended_gone = λ d. same_times c d (times d told.pending + times d (ended_names w.ended)) (λ e. subst (λ (k : ℕ). times k told.pending + times k (ended_names w.ended) ≡ 0) e no_ends);
   abandoned_gone = λ d. gone d (nat_eq c d) refl;
-  taken = λ d q b e h t. g.taken d q b h t;
+  taken = λ d q b e h. g.taken d q b h;
   untold = λ d q b e h t. g.untold d q b h (told_before p q told.lost t (λ s. differs c d e (g.cells c d p f b at (subst (λ (k : ℕ). held_at d w.names ≡ Some (AskCell k b)) (sym s) h))));
   old_asks = g.old_asks;
   old_lost = λ q t. told_or (λ (k : ℕ). k < w.next) p q told.lost t (g.built c p f at) (g.old_lost q);

@@ -140,6 +140,11 @@ abbrev pub ask_node : Option Held → Option ℕ
 ask_node (Some (AskCell cell is_taken)) = Some cell
 ask_node other = None
 
+-- a name that stood once in a list, and stands in it no more
+pub record LeavesList (name : ℕ) (old new : List ℕ) : Type 0 where
+  pub was : times name old ≡ 1
+  pub gone : times name new ≡ 0
+
 -- the node of an ask's cell
 abbrev pub cell_node : Option Held → List ℕ
 cell_node (Some (AskCell cell is_taken)) = cell ∷ []
