@@ -11,7 +11,7 @@ pub mod Closing
 pub mod Beside
 pub mod Worked
 pub mod Listeners
-pub mod Told
+pub mod ToldListed
 pub mod ToldFrees
 pub mod ToldChanges
 pub mod ToldEffects

@@ -16,7 +16,7 @@ use Rattle.kj_ownership.specs.Standing.{one_if}
 use Rattle.kj_ownership.proofs.Calls.{rests_of}
 use Rattle.kj_ownership.proofs.Premises.{allowed, found_none, new_absent}
 use Rattle.kj_takings.specs.Told.{ask_cells, ended_names, is_request, has_request, has_ended, is_lost_ask, ask_node, is_begin_of, is_done, begins, begun, tells_end, ends_told, request_after, lets_go, asks_but, asks_left, ended_left, abandoned_left, StartsWith, NoneCloses, IsReached, first_asked, first_lost, ask_told, lost_told, told_in, TellsOnce}
-use Rattle.kj_takings.proofs.Told.{Tales, Listed, absent_kind, same_request}
+use Rattle.kj_takings.proofs.ToldListed.{Tales, Listed, absent_kind, same_request}
 use Rattle.kj_takings.proofs.ToldChanges.{no_true}
 use Rattle.kj_takings.proofs.ToldCommands.{told_if, command_listed}
 use Rattle.kj_takings.proofs.ToldTakings.{whole, and_told, ask_tale, end_tale, lost_tale, ask_told_listed, end_told_listed, lost_told_listed, first_ask, first_end, first_cell}

@@ -16,7 +16,7 @@ use Rattle.kj_ownership.proofs.Shapes.{held_named, held_unnamed}
 use Rattle.kj_ownership.proofs.Tasks.{dropped_times}
 use Rattle.kj_takings.specs.Told.{ask_cells, ended_names, is_untaken, is_request, has_ended, is_lost_ask, ask_node, StartsWith}
 use Rattle.std.proofs.lemmas.List.Elements.{filter-append}
-use Rattle.kj_takings.proofs.Told.{kind, kind_ask, running, same_untaken, same_ended, same_request, same_node, same_lost, Tales, Listed, Leaves, left_apart, new_apart}
+use Rattle.kj_takings.proofs.ToldListed.{kind, kind_ask, running, same_untaken, same_ended, same_request, same_node, same_lost, Tales, Listed, Leaves, left_apart, new_apart}
 
 -- the cell of an ask under the name that changed: built, told of as it stands, and under no other name
 pub record CellHere (told : Tales) (c p : ℕ) (b : Bool) (next : ℕ) (names : List Named) : Type 0 where

@@ -17,7 +17,7 @@ use Rattle.kj_model.specs.Uses.{is_outside, is_taken_ask}
 use Rattle.kj_ownership.proofs.Moves.{built_grows}
 use Rattle.kj_ownership.proofs.Premises.{Allowed, allowed, found_none, new_absent, promise_is, cell_is, request_is}
 use Rattle.kj_ownership.proofs.Makes.{over_sources}
-use Rattle.kj_takings.proofs.Told.{kind, Tales, Listed, Leaves, leaves_none, leaves_then, listened_leaves, put_leaves, built_leaves, named_leaves, unnamed_leaves, absent_kind}
+use Rattle.kj_takings.proofs.ToldListed.{kind, Tales, Listed, Leaves, leaves_none, leaves_then, listened_leaves, put_leaves, built_leaves, named_leaves, unnamed_leaves, absent_kind}
 use Rattle.kj_takings.proofs.ToldFrees.{free_leaves}
 use Rattle.kj_takings.proofs.ToldChanges.{ask_listed, begun_by, begin_listed, end_pends, end_listed, replied_to, reply_listed, pending}
 use Rattle.kj_takings.proofs.ToldEffects.{still, leaf_leaves, over_leaves, over_named_leaves, each_listened_leaves, plain_sources, sides_leaves, settled_leaves, cleared_leaves, added_leaves, detached_leaves, empty_leaves, wrapped_leaves, canceled_leaves, drop_leaves}

@@ -13,7 +13,7 @@ use Rattle.kj_ownership.specs.Owners.{is_live}
 use Rattle.kj_ownership.specs.Standing.{one_if}
 use Rattle.kj_ownership.proofs.Tasks.{found_name}
 use Rattle.kj_takings.specs.Told.{is_lost_ask, StartsWith}
-use Rattle.kj_takings.proofs.Told.{kind, Tales, Listed, Leaves, leaves_none, leaves_then, put_leaves, gone_leaves, named_leaves}
+use Rattle.kj_takings.proofs.ToldListed.{kind, Tales, Listed, Leaves, leaves_none, leaves_then, put_leaves, gone_leaves, named_leaves}
 
 abbrev pub EachLeaves : (ℕ → State → State) → Type 0
 EachLeaves f = (n : ℕ) (s : State) → Leaves s.world (f n s).world

@@ -19,7 +19,7 @@ use Rattle.kj_ownership.specs.Kept.{Kept, is_open}
 use Rattle.kj_ownership.specs.Standing.{one_if}
 use Rattle.kj_ownership.proofs.Premises.{allowed, found_none, request_is}
 use Rattle.kj_takings.specs.Told.{ask_cells, ended_names, is_untaken, is_request, has_request, has_ended, is_lost_ask, ask_node, is_done, begins, tells_end, request_after, lets_go, asks_left, ended_left, abandoned_left, StartsWith, LeavesList, NoneCloses, IsReached, TellsOnce}
-use Rattle.kj_takings.proofs.Told.{kind, Tales, Listed, same_ended, Leaves}
+use Rattle.kj_takings.proofs.ToldListed.{kind, Tales, Listed, same_ended, Leaves}
 use Rattle.kj_takings.proofs.ToldFrees.{free_leaves}
 use Rattle.kj_takings.proofs.ToldChanges.{named_here, unnamed_here}
 use Rattle.kj_takings.proofs.ToldTakings.{first_ask, first_end, first_cell}

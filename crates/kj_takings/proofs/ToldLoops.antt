@@ -15,7 +15,7 @@ use Rattle.kj_ownership.specs.Kept.{Kept, is_open, TakesSpent}
 use Rattle.kj_ownership.specs.Standing.{one_if}
 use Rattle.kj_ownership.proofs.Calls.{call_keeps, new_kept}
 use Rattle.kj_takings.specs.Told.{ended_names, is_request, has_request, has_ended, ask_node, is_begin_of, is_done, begins, begun, tells_end, ends_told, request_after, lets_go, asks_left, ended_left, abandoned_left, StartsWith, NoneCloses, IsReached, ask_told, lost_told, told_in, TellsOnce}
-use Rattle.kj_takings.proofs.Told.{Tales, Listed, tells_once}
+use Rattle.kj_takings.proofs.ToldListed.{Tales, Listed, tells_once}
 use Rattle.kj_takings.proofs.ToldCalls.{told_spent, no_tales, new_listed, afresh, afresh_listed, Goes, call_goes}
 
 -- what holds of a loop between two calls

@@ -11,7 +11,7 @@ use Rattle.kj_model.specs.Framed.{times}
 use Rattle.kj_model.proofs.Spared.{same_number}
 use Rattle.kj_ownership.specs.Standing.{one_if}
 use Rattle.kj_takings.specs.Told.{ask_cells, ended_names, is_untaken, is_request, has_ended, is_lost_ask, ask_node, StartsWith}
-use Rattle.kj_takings.proofs.Told.{Tales, Listed, new_apart}
+use Rattle.kj_takings.proofs.ToldListed.{Tales, Listed, new_apart}
 use Rattle.kj_takings.proofs.ToldChanges.{changed, forgotten, same_times, same_here, other_named, named_here, let_go, gone_stays, other_stays}
 
 pub whole : {A : Type 0} (xs : List A) → StartsWith xs xs

@@ -26,7 +26,7 @@ use Rattle.kj_ownership.proofs.Applied.{commands_keep}
 use Rattle.kj_ownership.proofs.Tasks.{found_name}
 use Rattle.kj_ownership.proofs.RequestFires.{request_at}
 use Rattle.kj_ownership.proofs.Turns.{firing_standing, fires_shaped, rewound_passes, taken_passes, turn_passes}
-use Rattle.kj_takings.proofs.Told.{kind, Tales, Listed, Leaves, leaves_none, leaves_then, stays, announced_leaves, listened_leaves, put_leaves, gone_leaves, named_leaves, replaced_leaves}
+use Rattle.kj_takings.proofs.ToldListed.{kind, Tales, Listed, Leaves, leaves_none, leaves_then, stays, announced_leaves, listened_leaves, put_leaves, gone_leaves, named_leaves, replaced_leaves}
 use Rattle.kj_takings.proofs.ToldFrees.{free_leaves}
 use Rattle.kj_takings.proofs.ToldChanges.{end_pends, end_listed}
 use Rattle.kj_takings.proofs.ToldEffects.{now_empty_leaves, roots_leaves}

@@ -11,7 +11,7 @@ use Rattle.kj_model.specs.Changes.{silent, put}
 use Rattle.kj_model.specs.Free.{usual}
 use Rattle.kj_model.specs.Apply.{Refused, apply}
 use Rattle.kj_model.specs.Value.{Given, took_if, holds_firing, promise_taken, promise_ended, ended, rest_applied, all_applied, ended_if, with_item, with_stopped, answered, run_step, chosen, step_passed, freed, then_valued, then_of, side_valued, side_of, value_side, rest_valued, all_valued, join_valued, winner_valued, value_form, value_to, value, value_link}
-use Rattle.kj_takings.proofs.Told.{kind, Tales, Listed, stays, put_leaves, unnamed_leaves}
+use Rattle.kj_takings.proofs.ToldListed.{kind, Tales, Listed, stays, put_leaves, unnamed_leaves}
 use Rattle.kj_takings.proofs.ToldFrees.{free_leaves}
 use Rattle.kj_takings.proofs.ToldCommands.{apply_listed}
 

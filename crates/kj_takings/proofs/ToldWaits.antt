@@ -15,7 +15,7 @@ use Rattle.kj_ownership.specs.Kept.{Rests}
 use Rattle.kj_ownership.proofs.Premises.{name_absent}
 use Rattle.kj_ownership.proofs.Turns.{turn_passes}
 use Rattle.kj_ownership.proofs.Waits.{held_rests}
-use Rattle.kj_takings.proofs.Told.{kind, Tales, Listed, Leaves, leaves_none, leaves_then, listened_leaves, named_leaves, unnamed_leaves, absent_kind}
+use Rattle.kj_takings.proofs.ToldListed.{kind, Tales, Listed, Leaves, leaves_none, leaves_then, listened_leaves, named_leaves, unnamed_leaves, absent_kind}
 use Rattle.kj_takings.proofs.ToldFrees.{free_leaves}
 use Rattle.kj_takings.proofs.ToldEffects.{disarmed_leaves, roots_leaves}
 use Rattle.kj_takings.proofs.ToldValues.{value_listed}
