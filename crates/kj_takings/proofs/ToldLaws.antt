@@ -1,29 +1,29 @@
 -- What one call of a loop does to names of requests, to the lists and to the cells of asks.
-use Rattle.std.proofs.Common.{◌≡◌, ℕ, ◌+◌, ◌≤◌, List, [], ◌∷◌, ◌++◌, Bool, true, false, not, ◌||◌, ◌&&◌, Option, None, Some, arith, refl, sym, ap, ◌∙◌, subst, ◌==◌}
+use Rattle.std.proofs.Common.{◌≡◌, ℕ, ◌+◌, ◌≤◌, List, [], ◌∷◌, ◌++◌, Bool, true, false, not, ◌||◌, Option, None, Some, arith, refl, sym, ap, ◌∙◌, subst}
 use Rattle.std.specs.Prelude.{nat_eq}
 use Rattle.std.proofs.lemmas.Bool.{false≢true}
 use Rattle.std.proofs.lemmas.Bool.Decides.{nat_tests}
-use Rattle.kj_base.specs.Commands.{Command, Stop, Reply}
+use Rattle.kj_base.specs.Commands.{Stop, Reply}
 use Rattle.kj_base.specs.declared.numbers.Limits.{Limits}
 use Rattle.kj_base.specs.declared.outcomes.Outcome.{Outcome}
 use Rattle.kj_model.specs.World.{World, State, Setting, Named, Held, AskCell, RequestOf, Asked, Ended, held_at, new_state}
 use Rattle.kj_model.specs.Changes.{silent, named}
 use Rattle.kj_model.specs.Free.{Guard, free, usual}
 use Rattle.kj_model.specs.Effects.{node_named, effect}
-use Rattle.kj_model.specs.Apply.{Refused, refusal, refused_stopped, refused_inside, refused_unknown, refused_wrong, refused_taken, refused_busy, refused_full, is_busy_at, is_full, applied, apply}
+use Rattle.kj_model.specs.Apply.{Refused, refusal, refused_stopped, refused_unknown, refused_wrong, refused_busy, refused_full, is_busy_at, is_full, applied}
 use Rattle.kj_model.specs.Uses.{IsAsk, is_name, is_live_request, found_if, has_role}
 use Rattle.kj_model.specs.Calls.{Call, CallApply, CallTakeAsk, CallTakeEnded, CallTakeAbandoned, Reply as ReplyOf, Applied, TookAsk, TookEnded, TookAbandoned, take_ask_of, take_ended_of, take_abandoned_of, call, calls}
 use Rattle.kj_model.specs.Framed.{times}
 use Rattle.kj_ownership.specs.Fits.{Fits}
-use Rattle.kj_ownership.specs.Kept.{Kept, is_open}
+use Rattle.kj_ownership.specs.Kept.{is_open}
 use Rattle.kj_ownership.specs.Standing.{one_if}
 use Rattle.kj_ownership.proofs.Premises.{allowed, found_none, request_is}
-use Rattle.kj_takings.specs.Told.{ask_cells, ended_names, is_untaken, is_request, has_request, has_ended, is_lost_ask, ask_node, is_done, begins, tells_end, request_after, lets_go, asks_left, ended_left, abandoned_left, StartsWith, LeavesList, NoneCloses, IsReached, TellsOnce}
-use Rattle.kj_takings.proofs.ToldListed.{kind, Tales, Listed, same_ended, Leaves}
+use Rattle.kj_takings.specs.Told.{ask_cells, ended_names, is_untaken, has_request, has_ended, is_lost_ask, ask_node, is_done, begins, request_after, lets_go, asks_left, ended_left, abandoned_left, StartsWith, LeavesList, NoneCloses, IsReached}
+use Rattle.kj_takings.proofs.ToldListed.{Tales, Listed, same_ended}
 use Rattle.kj_takings.proofs.ToldFrees.{free_leaves}
 use Rattle.kj_takings.proofs.ToldChanges.{named_here, unnamed_here}
-use Rattle.kj_takings.proofs.ToldTakings.{first_ask, first_end, first_cell}
-use Rattle.kj_takings.proofs.ToldLoops.{Reaches, tells, goes_on, reached, reached_goes}
+use Rattle.kj_takings.proofs.ToldTakings.{first_ask, first_end}
+use Rattle.kj_takings.proofs.ToldLoops.{tells, goes_on, reached, reached_goes}
 
 -- a loop that has made some calls
 pub new_is_reached : (setting : Setting) (limits : Limits) → IsReached setting (new_state limits)

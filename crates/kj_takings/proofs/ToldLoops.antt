@@ -1,11 +1,8 @@
 -- What lists of calls tell, from a new loop on.
-use Rattle.std.proofs.Common.{◌≡◌, ℕ, ◌+◌, ◌≤◌, List, [], ◌∷◌, ◌++◌, Bool, true, false, not, ◌||◌, ◌&&◌, Option, None, Some, arith, refl, sym, ap, ◌∙◌, subst}
-use Rattle.std.specs.Prelude.{nat_eq}
+use Rattle.std.proofs.Common.{◌≡◌, ℕ, ◌+◌, ◌≤◌, List, [], ◌∷◌, Bool, true, false, not, ◌||◌, ◌&&◌, Option, None, Some, arith, refl, sym, ap, ◌∙◌, subst}
 use Rattle.std.proofs.lemmas.Bool.{false≢true}
-use Rattle.kj_base.specs.Commands.{Command, Reply}
 use Rattle.kj_base.specs.declared.numbers.Limits.{Limits}
-use Rattle.kj_base.specs.declared.outcomes.Outcome.{Outcome}
-use Rattle.kj_model.specs.World.{World, State, Setting, Held, AskCell, RequestOf, Asked, Ended, held_at, new_state}
+use Rattle.kj_model.specs.World.{State, Setting, Held, RequestOf, held_at, new_state}
 use Rattle.kj_model.specs.Uses.{is_live_request}
 use Rattle.kj_model.specs.Calls.{Call, call, calls}
 use Rattle.kj_model.specs.Framed.{times}
@@ -14,7 +11,7 @@ use Rattle.kj_ownership.specs.Fits.{Fits}
 use Rattle.kj_ownership.specs.Kept.{Kept, is_open, TakesSpent}
 use Rattle.kj_ownership.specs.Standing.{one_if}
 use Rattle.kj_ownership.proofs.Calls.{call_keeps, new_kept}
-use Rattle.kj_takings.specs.Told.{ended_names, is_request, has_request, has_ended, ask_node, is_begin_of, is_done, begins, begun, tells_end, ends_told, request_after, lets_go, asks_left, ended_left, abandoned_left, StartsWith, NoneCloses, IsReached, ask_told, lost_told, told_in, TellsOnce}
+use Rattle.kj_takings.specs.Told.{ended_names, is_request, has_request, has_ended, begins, begun, tells_end, ends_told, NoneCloses, IsReached, ask_told, lost_told, told_in, TellsOnce}
 use Rattle.kj_takings.proofs.ToldListed.{Tales, Listed, tells_once}
 use Rattle.kj_takings.proofs.ToldCalls.{told_spent, no_tales, new_listed, afresh, afresh_listed, Goes, call_goes}
 
