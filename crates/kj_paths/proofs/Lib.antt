@@ -11,7 +11,6 @@ pub mod Fires
 pub mod Turns
 pub mod Calls
 pub mod Paths
-pub mod Worked
 pub mod Rows
 pub mod Alike
 pub mod Same

@@ -18,10 +18,12 @@ use Rattle.kj_ownership.proofs.Moves.{number_live}
 use Rattle.kj_ownership.proofs.Stays.{in_times, out_times}
 use Rattle.kj_ownership.specs.Fits.{Fits}
 use Rattle.kj_ownership.specs.Kept.{Kept}
-use Rattle.kj_ownership.proofs.Calls.{call_keeps, new_kept}
 use Rattle.kj_ownership.proofs.Closing.{close_frees_all}
 use Rattle.kj_ownership.proofs.Sides.{numbers_apart}
-use Rattle.kj_paths.specs.Paths.{NextBefore, Paths, is_used, LivesIn, AreOpen}
+use Rattle.kj_takings.specs.Told.{NoneCloses, IsReached}
+use Rattle.kj_takings.proofs.ToldLoops.{reached_kept}
+use Rattle.kj_takings.proofs.ToldLaws.{new_is_reached, next_is_reached}
+use Rattle.kj_paths.specs.Paths.{NextBefore, Paths, is_used, LivesIn}
 use Rattle.kj_paths.proofs.Laid.{Laid, no_spot, new_laid}
 use Rattle.kj_paths.proofs.Built.{number_spot}
 use Rattle.kj_paths.proofs.Calls.{call_laid, close_laid}
@@ -144,27 +146,30 @@ pub next_unused : (w : World) → Paths w → is_used w.next_key w.spots ≡ fal
 next_unused w p = false_by (is_used w.next_key w.spots) (λ u. (let l = used_lives w w.next_key p u in let k = p.keys l.number l.spot l.placed in let h = l.here in omega (arith, k, h)))
 
 -- lists of calls
+pub calls_laid : (setting : Setting) (cs : List Call) (s : State) → Fits setting → NoneCloses cs → IsReached setting s → Laid [] s.world → Laid [] (calls setting cs s).0.world
+calls_laid setting [] s fits opens r g = g
+calls_laid setting (c ∷ cs) s fits opens r g = calls_laid setting cs (call setting c s).0 fits opens.1 (next_is_reached setting c s opens.0 r) (call_laid setting c s fits (reached_kept setting s fits r) g)
+
 pub record KeptLaid (s : State) : Type 0 where
   pub kept : Kept s
   pub laid : Laid [] s.world
 
-pub calls_laid : (setting : Setting) (cs : List Call) (s : State) → Fits setting → AreOpen setting cs s → KeptLaid s → KeptLaid (calls setting cs s).0
-calls_laid setting [] s fits opens k = k
-calls_laid setting (c ∷ cs) s fits opens k = calls_laid setting cs (call setting c s).0 fits opens.2 (record { kept = call_keeps setting c s fits opens.0 opens.1 k.kept; laid = call_laid setting c s fits k.kept k.laid })
+after : (setting : Setting) (limits : Limits) (cs : List Call) → Fits setting → NoneCloses cs → KeptLaid (calls setting cs (new_state limits)).0
+after setting limits cs fits opens = record {
+  kept = reached_kept setting (calls setting cs (new_state limits)).0 fits (record { limits = limits; before = cs; opens = opens; here = refl });
+  laid = calls_laid setting cs (new_state limits) fits opens (new_is_reached setting limits) (new_laid limits);
+}
 
-after : (setting : Setting) (limits : Limits) (cs : List Call) → Fits setting → AreOpen setting cs (new_state limits) → KeptLaid (calls setting cs (new_state limits)).0
-after setting limits cs fits opens = calls_laid setting cs (new_state limits) fits opens (record { kept = new_kept limits; laid = new_laid limits })
-
-pub calls_paths : (setting : Setting) (limits : Limits) (cs : List Call) → Fits setting → AreOpen setting cs (new_state limits) → Paths (calls setting cs (new_state limits)).0.world
+pub calls_paths : (setting : Setting) (limits : Limits) (cs : List Call) → Fits setting → NoneCloses cs → Paths (calls setting cs (new_state limits)).0.world
 calls_paths setting limits cs fits opens = let k = after setting limits cs fits opens in paths_of (calls setting cs (new_state limits)).0 k.kept.owned k.laid
 
-pub close_paths : (setting : Setting) (limits : Limits) (cs : List Call) → Fits setting → AreOpen setting cs (new_state limits) → Paths (close (calls setting cs (new_state limits)).0).world
+pub close_paths : (setting : Setting) (limits : Limits) (cs : List Call) → Fits setting → NoneCloses cs → Paths (close (calls setting cs (new_state limits)).0).world
 close_paths setting limits cs fits opens =
     let s = (calls setting cs (new_state limits)).0 in
     let k = after setting limits cs fits opens in
     paths_of (close s) (close_frees_all s k.kept.owned k.kept.none_awaited).owned (close_laid s k.laid)
 
-pub close_unused : (setting : Setting) (limits : Limits) (cs : List Call) → Fits setting → AreOpen setting cs (new_state limits) → (key : ℕ) → is_used key (close (calls setting cs (new_state limits)).0).world.spots ≡ false
+pub close_unused : (setting : Setting) (limits : Limits) (cs : List Call) → Fits setting → NoneCloses cs → (key : ℕ) → is_used key (close (calls setting cs (new_state limits)).0).world.spots ≡ false
 close_unused setting limits cs fits opens key =
     let s = (calls setting cs (new_state limits)).0 in
     let k = after setting limits cs fits opens in

@@ -28,8 +28,11 @@ use Rattle.kj_ownership.proofs.Fires.{fired_frames}
 use Rattle.kj_ownership.proofs.Applied.{commands_keep}
 use Rattle.kj_ownership.proofs.Turns.{firing_standing, fires_shaped, rewound_passes, taken_passes, turn_passes}
 use Rattle.kj_ownership.proofs.Waits.{held_rests}
-use Rattle.kj_ownership.proofs.Calls.{rests_of, call_keeps, new_kept}
-use Rattle.kj_paths.specs.Paths.{Paths, AreOpen}
+use Rattle.kj_ownership.proofs.Calls.{rests_of}
+use Rattle.kj_takings.specs.Told.{NoneCloses, IsReached}
+use Rattle.kj_takings.proofs.ToldLoops.{reached_kept}
+use Rattle.kj_takings.proofs.ToldLaws.{new_is_reached, next_is_reached}
+use Rattle.kj_paths.specs.Paths.{Paths}
 use Rattle.kj_paths.specs.Rows.{counted_fit, over_store}
 use Rattle.kj_paths.proofs.Laid.{Laid, new_laid}
 use Rattle.kj_paths.proofs.Paths.{calls_paths, close_paths}
@@ -256,38 +259,24 @@ module _ (answer : List Item → ℕ → Option Action) where
   call_same fits CallTakeAbandoned s k g = refl
   call_same fits CallClose s k g = refl
 
-  pub calls_same : Fits (over_store counted_fit answer) → (cs : List Call) (s : State) → AreOpen (over_store counted_fit answer) cs s → Kept s → Laid [] s.world → calls (over_store arenas_fit answer) cs s ≡ calls (over_store counted_fit answer) cs s
-  calls_same fits [] s opens k g = refl
-  calls_same fits (c ∷ cs) s opens k g =
+  pub calls_same : Fits (over_store counted_fit answer) → (cs : List Call) (s : State) → NoneCloses cs → IsReached (over_store counted_fit answer) s → Laid [] s.world → calls (over_store arenas_fit answer) cs s ≡ calls (over_store counted_fit answer) cs s
+  calls_same fits [] s opens reached g = refl
+  calls_same fits (c ∷ cs) s opens reached g =
       let r = call (over_store counted_fit answer) c s in
+      let k = reached_kept (over_store counted_fit answer) s fits reached in
       ap (λ q. and_then q (calls (over_store arenas_fit answer) cs q.0)) (call_same fits c s k g)
-      ∙ ap (and_then r) (calls_same fits cs r.0 opens.2 (call_keeps (over_store counted_fit answer) c s fits opens.0 opens.1 k) (call_laid (over_store counted_fit answer) c s fits k g))
-
-  pub open_same : Fits (over_store counted_fit answer) → (cs : List Call) (s : State) → AreOpen (over_store arenas_fit answer) cs s → Kept s → Laid [] s.world → AreOpen (over_store counted_fit answer) cs s
-  open_same fits [] s opens k g = tt
-  open_same fits (c ∷ cs) s opens k g =
-      let r = call (over_store counted_fit answer) c s in
-      (opens.0, opens.1, open_same fits cs r.0 (subst (λ (q : State × Reply). AreOpen (over_store arenas_fit answer) cs q.0) (call_same fits c s k g) opens.2) (call_keeps (over_store counted_fit answer) c s fits opens.0 opens.1 k) (call_laid (over_store counted_fit answer) c s fits k g))
+      ∙ ap (and_then r) (calls_same fits cs r.0 opens.1 (next_is_reached (over_store counted_fit answer) c s opens.0 reached) (call_laid (over_store counted_fit answer) c s fits k g))
 
 -- the slots are counted
 pub counted_fits : (answer : List Item → ℕ → Option Action) → Fits (over_store counted_fit answer)
 counted_fits answer slots spots rows h = le_of (length spots + counts rows) slots (and_parts (arenas_fit slots spots rows) (table_fits slots spots rows) h).1
 
 -- from a new loop
-pub new_same : (answer : List Item → ℕ → Option Action) (limits : Limits) (cs : List Call) → AreOpen (over_store arenas_fit answer) cs (new_state limits) → calls (over_store arenas_fit answer) cs (new_state limits) ≡ calls (over_store counted_fit answer) cs (new_state limits)
-new_same answer limits cs opens =
-    let s = new_state limits in
-    let fits = counted_fits answer in
-    calls_same answer fits cs s (open_same answer fits cs s opens (new_kept limits) (new_laid limits)) (new_kept limits) (new_laid limits)
+pub new_same : (answer : List Item → ℕ → Option Action) (limits : Limits) (cs : List Call) → NoneCloses cs → calls (over_store arenas_fit answer) cs (new_state limits) ≡ calls (over_store counted_fit answer) cs (new_state limits)
+new_same answer limits cs opens = calls_same answer (counted_fits answer) cs (new_state limits) opens (new_is_reached (over_store counted_fit answer) limits) (new_laid limits)
 
-pub arenas_paths : (answer : List Item → ℕ → Option Action) (limits : Limits) (cs : List Call) → AreOpen (over_store arenas_fit answer) cs (new_state limits) → Paths (calls (over_store arenas_fit answer) cs (new_state limits)).0.world
-arenas_paths answer limits cs opens =
-    let s = new_state limits in
-    let fits = counted_fits answer in
-    subst (λ (q : State × List Reply). Paths q.0.world) (sym (new_same answer limits cs opens)) (calls_paths (over_store counted_fit answer) limits cs fits (open_same answer fits cs s opens (new_kept limits) (new_laid limits)))
+pub arenas_paths : (answer : List Item → ℕ → Option Action) (limits : Limits) (cs : List Call) → NoneCloses cs → Paths (calls (over_store arenas_fit answer) cs (new_state limits)).0.world
+arenas_paths answer limits cs opens = subst (λ (q : State × List Reply). Paths q.0.world) (sym (new_same answer limits cs opens)) (calls_paths (over_store counted_fit answer) limits cs (counted_fits answer) opens)
 
-pub arenas_close_paths : (answer : List Item → ℕ → Option Action) (limits : Limits) (cs : List Call) → AreOpen (over_store arenas_fit answer) cs (new_state limits) → Paths (close (calls (over_store arenas_fit answer) cs (new_state limits)).0).world
-arenas_close_paths answer limits cs opens =
-    let s = new_state limits in
-    let fits = counted_fits answer in
-    subst (λ (q : State × List Reply). Paths (close q.0).world) (sym (new_same answer limits cs opens)) (close_paths (over_store counted_fit answer) limits cs fits (open_same answer fits cs s opens (new_kept limits) (new_laid limits)))
+pub arenas_close_paths : (answer : List Item → ℕ → Option Action) (limits : Limits) (cs : List Call) → NoneCloses cs → Paths (close (calls (over_store arenas_fit answer) cs (new_state limits)).0).world
+arenas_close_paths answer limits cs opens = subst (λ (q : State × List Reply). Paths (close q.0).world) (sym (new_same answer limits cs opens)) (close_paths (over_store counted_fit answer) limits cs (counted_fits answer) opens)

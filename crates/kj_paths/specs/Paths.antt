@@ -1,11 +1,9 @@
 -- The paths of arenas.
-use Rattle.std.specs.Prelude.{◌≡◌, ℕ, ◌+◌, ◌≤◌, ◌<◌, List, [], ◌∷◌, Some, Bool, true, map, ◌==◌}
+use Rattle.std.specs.Prelude.{◌≡◌, ℕ, ◌+◌, ◌≤◌, ◌<◌, List, Some, Bool, true, map, ◌==◌}
 use Rattle.std.specs.List.{list_any}
 use Rattle.kj_base.specs.Places.{Spot, spot_of}
-use Rattle.kj_model.specs.World.{World, State, Setting}
-use Rattle.kj_model.specs.Calls.{Call, call}
+use Rattle.kj_model.specs.World.{World}
 use Rattle.kj_model.specs.Framed.{times}
-use Rattle.kj_ownership.specs.Kept.{TakesSpent, is_open}
 use Rattle.kj_ownership.specs.Owners.{is_live, owns}
 
 -- a live node that is one place before that one in its arena, and owns it
@@ -42,9 +40,3 @@ pub record LivesIn (key : ℕ) (w : World) : Type 0 where
   pub live : is_live number w.nodes ≡ true
   pub placed : spot_of number w.spots ≡ Some spot
   pub here : spot.key ≡ key
-
--- no call of the list closes the loop, and a taking call frees a name that leaves no root
-abbrev pub AreOpen : Setting → List Call → State → Type 0
-AreOpen setting [] s = Unit {0}
-AreOpen setting (c ∷ cs) s =
-    (is_open c ≡ true) × TakesSpent c s.world × AreOpen setting cs (call setting c s).0

@@ -18,6 +18,11 @@ use Rattle.kj_takings.proofs.Calm.{Same, Calm, less_same}
 use Rattle.kj_takings.proofs.Refusals.{AllFair, apply_same}
 use Rattle.kj_takings.proofs.Values.{asks_none, no_asks}
 use Rattle.kj_takings.proofs.Turns.{turn_calm, run_calm, wait_calm, wait_loose}
+use Rattle.kj_ownership.specs.Fits.{Fits}
+use Rattle.kj_ownership.specs.Kept.{is_open}
+use Rattle.kj_takings.specs.Told.{IsReached}
+use Rattle.kj_takings.proofs.ToldLoops.{reached_spent, reached_kept}
+use Rattle.kj_takings.proofs.ToldLaws.{next_is_reached}
 use Rattle.kj_takings.proofs.Closing.{close_tame, ask_alike, ended_alike, abandoned_alike, narrowed}
 
 -- what was told since
@@ -130,16 +135,25 @@ taking_beside loose setting c s t f a = states_back (loosened_by (name_freed c t
 pub settled_alike : (loose : ℕ → Bool) (name : ℕ) (s t : State) → IsNowhere name s t → AlikeStates loose s t → AlikeStates (firmed name loose) s t
 settled_alike loose name s t n a = record { world = narrowed loose name s.world t.world n.left n.right a.world; past = a.past }
 
--- steps beside one another
-pub steps_alike : (setting : Setting) (loose : ℕ → Bool) (steps : List Step) (s t : State) → StepsFit setting loose steps s t → AlikeStates loose s t → AlikeStates (loose_after setting loose steps s t) (calls setting (left_calls steps) s).0 (calls setting (right_calls steps) t).0
-steps_alike setting loose [] s t f a = a
-steps_alike setting loose (Both c ∷ more) s t f a = steps_alike setting loose more (call setting c s).0 (call setting c t).0 f.2 (call_alike loose setting c s t f.0 f.1 a).0
-steps_alike setting loose (Left c ∷ more) s t f a = steps_alike setting (loosened_by (name_freed c s.world) loose) more (call setting c s).0 t f.1 (taking_alike loose setting c s t f.0 a)
-steps_alike setting loose (Right c ∷ more) s t f a = steps_alike setting (loosened_by (name_freed c t.world) loose) more s (call setting c t).0 f.1 (taking_beside loose setting c s t f.0 a)
-steps_alike setting loose (Settled name ∷ more) s t f a = steps_alike setting (firmed name loose) more s t f.1 (settled_alike loose name s t f.0 a)
+-- what is asked of a taking call is given in each state that a loop reaches
+taking_fits : (setting : Setting) (c : Call) (s : State) → Fits setting → IsReached setting s → is_taking c ≡ true → TakingFits c s
+taking_fits setting c s fits r e = record { taking = e; spent = reached_spent setting c s fits r; unawaited = (reached_kept setting s fits r).none_awaited }
 
-pub same_record : (setting : Setting) (loose : ℕ → Bool) (steps : List Step) (s t : State) → StepsFit setting loose steps s t → AlikeStates loose s t → (calls setting (right_calls steps) t).0.past ≡ (calls setting (left_calls steps) s).0.past
-same_record setting loose steps s t f a = (steps_alike setting loose steps s t f a).past
+taking_opens : (c : Call) → is_taking c ≡ true → is_open c ≡ true
+taking_opens CallClose e = absurd (false≢true e)
+taking_opens c e = refl
+
+-- steps beside one another
+pub steps_alike : (setting : Setting) (loose : ℕ → Bool) (steps : List Step) (s t : State) → Fits setting → IsReached setting s → IsReached setting t → StepsFit setting loose steps s t → AlikeStates loose s t → AlikeStates (loose_after setting loose steps s t) (calls setting (left_calls steps) s).0 (calls setting (right_calls steps) t).0
+steps_alike setting loose [] s t fits l r f a = a
+steps_alike setting loose (Both c ∷ []) s t fits l r f a = (call_alike loose setting c s t f.0 f.2 a).0
+steps_alike setting loose (Both c ∷ x ∷ more) s t fits l r f a = steps_alike setting loose (x ∷ more) (call setting c s).0 (call setting c t).0 fits (next_is_reached setting c s f.1 l) (next_is_reached setting c t f.1 r) f.3 (call_alike loose setting c s t f.0 f.2 a).0
+steps_alike setting loose (Left c ∷ more) s t fits l r f a = steps_alike setting (loosened_by (name_freed c s.world) loose) more (call setting c s).0 t fits (next_is_reached setting c s (taking_opens c f.0) l) r f.1 (taking_alike loose setting c s t (taking_fits setting c s fits l f.0) a)
+steps_alike setting loose (Right c ∷ more) s t fits l r f a = steps_alike setting (loosened_by (name_freed c t.world) loose) more s (call setting c t).0 fits l (next_is_reached setting c t (taking_opens c f.0) r) f.1 (taking_beside loose setting c s t (taking_fits setting c t fits r f.0) a)
+steps_alike setting loose (Settled name ∷ more) s t fits l r f a = steps_alike setting (firmed name loose) more s t fits l r f.1 (settled_alike loose name s t f.0 a)
+
+pub same_record : (setting : Setting) (loose : ℕ → Bool) (steps : List Step) (s t : State) → Fits setting → IsReached setting s → IsReached setting t → StepsFit setting loose steps s t → AlikeStates loose s t → (calls setting (right_calls steps) t).0.past ≡ (calls setting (left_calls steps) s).0.past
+same_record setting loose steps s t fits l r f a = (steps_alike setting loose steps s t fits l r f a).past
 
 taking_reply : (c : Call) (cs : List Call) (r : ReplyOf) (rs : List ReplyOf) → is_taking c ≡ true → plain_replies (c ∷ cs) (r ∷ rs) ≡ plain_replies cs rs
 taking_reply CallTakeAsk cs r rs e = refl
@@ -161,22 +175,26 @@ plain_reply (CallRun turns) cs r rs e = refl
 plain_reply (CallWait name turns) cs r rs e = refl
 plain_reply CallClose cs r rs e = refl
 
-pub same_replies : (setting : Setting) (loose : ℕ → Bool) (steps : List Step) (s t : State) → StepsFit setting loose steps s t → AlikeStates loose s t → plain_replies (right_calls steps) (calls setting (right_calls steps) t).1 ≡ plain_replies (left_calls steps) (calls setting (left_calls steps) s).1
-same_replies setting loose [] s t f a = refl
-same_replies setting loose (Both c ∷ more) s t f a =
+both_replies : (setting : Setting) (loose : ℕ → Bool) (c : Call) (cs ds : List Call) (s t : State) → is_taking c ≡ false → CallFits loose setting c s t → AlikeStates loose s t → plain_replies ds (calls setting ds (call setting c t).0).1 ≡ plain_replies cs (calls setting cs (call setting c s).0).1 → plain_replies (c ∷ ds) (calls setting (c ∷ ds) t).1 ≡ plain_replies (c ∷ cs) (calls setting (c ∷ cs) s).1
+both_replies setting loose c cs ds s t e f a same =
     let x = call setting c s in
     let y = call setting c t in
-    let h = call_alike loose setting c s t f.0 f.1 a in
-    let ls = (calls setting (left_calls more) x.0).1 in
-    let rs = (calls setting (right_calls more) y.0).1 in
-    plain_reply c (right_calls more) y.1 rs f.0 ∙ ap (λ (r : ReplyOf). r ∷ plain_replies (right_calls more) rs) (sym h.1) ∙ ap (λ (l : List ReplyOf). reply_but_why x.1 ∷ l) (same_replies setting loose more x.0 y.0 f.2 h.0) ∙ sym (plain_reply c (left_calls more) x.1 ls f.0)
-same_replies setting loose (Left c ∷ more) s t f a =
+    let h = call_alike loose setting c s t e f a in
+    let ls = (calls setting cs x.0).1 in
+    let rs = (calls setting ds y.0).1 in
+    plain_reply c ds y.1 rs e ∙ ap (λ (r : ReplyOf). r ∷ plain_replies ds rs) (sym h.1) ∙ ap (λ (l : List ReplyOf). reply_but_why x.1 ∷ l) same ∙ sym (plain_reply c cs x.1 ls e)
+
+pub same_replies : (setting : Setting) (loose : ℕ → Bool) (steps : List Step) (s t : State) → Fits setting → IsReached setting s → IsReached setting t → StepsFit setting loose steps s t → AlikeStates loose s t → plain_replies (right_calls steps) (calls setting (right_calls steps) t).1 ≡ plain_replies (left_calls steps) (calls setting (left_calls steps) s).1
+same_replies setting loose [] s t fits l r f a = refl
+same_replies setting loose (Both c ∷ []) s t fits l r f a = both_replies setting loose c [] [] s t f.0 f.2 a refl
+same_replies setting loose (Both c ∷ x ∷ more) s t fits l r f a = both_replies setting loose c (left_calls (x ∷ more)) (right_calls (x ∷ more)) s t f.0 f.2 a (same_replies setting loose (x ∷ more) (call setting c s).0 (call setting c t).0 fits (next_is_reached setting c s f.1 l) (next_is_reached setting c t f.1 r) f.3 (call_alike loose setting c s t f.0 f.2 a).0)
+same_replies setting loose (Left c ∷ more) s t fits l r f a =
     let x = call setting c s in
-    same_replies setting (loosened_by (name_freed c s.world) loose) more x.0 t f.1 (taking_alike loose setting c s t f.0 a) ∙ sym (taking_reply c (left_calls more) x.1 (calls setting (left_calls more) x.0).1 f.0.taking)
-same_replies setting loose (Right c ∷ more) s t f a =
+    same_replies setting (loosened_by (name_freed c s.world) loose) more x.0 t fits (next_is_reached setting c s (taking_opens c f.0) l) r f.1 (taking_alike loose setting c s t (taking_fits setting c s fits l f.0) a) ∙ sym (taking_reply c (left_calls more) x.1 (calls setting (left_calls more) x.0).1 f.0)
+same_replies setting loose (Right c ∷ more) s t fits l r f a =
     let y = call setting c t in
-    taking_reply c (right_calls more) y.1 (calls setting (right_calls more) y.0).1 f.0.taking ∙ same_replies setting (loosened_by (name_freed c t.world) loose) more s y.0 f.1 (taking_beside loose setting c s t f.0 a)
-same_replies setting loose (Settled name ∷ more) s t f a = same_replies setting (firmed name loose) more s t f.1 (settled_alike loose name s t f.0 a)
+    taking_reply c (right_calls more) y.1 (calls setting (right_calls more) y.0).1 f.0 ∙ same_replies setting (loosened_by (name_freed c t.world) loose) more s y.0 fits l (next_is_reached setting c t (taking_opens c f.0) r) f.1 (taking_beside loose setting c s t (taking_fits setting c t fits r f.0) a)
+same_replies setting loose (Settled name ∷ more) s t fits l r f a = same_replies setting (firmed name loose) more s t fits l r f.1 (settled_alike loose name s t f.0 a)
 
 -- a state is alike itself
 sorted_firm : (names : List Rattle.kj_model.specs.World.Named) → AreRising names → Sorted none_loose names

@@ -11,11 +11,15 @@ pub mod Closing
 pub mod Beside
 pub mod Worked
 pub mod Listeners
-pub mod Told
+pub mod ToldListed
 pub mod ToldFrees
 pub mod ToldChanges
 pub mod ToldEffects
 pub mod ToldCommands
 pub mod ToldValues
 pub mod ToldTurns
+pub mod ToldWaits
+pub mod ToldTakings
 pub mod ToldCalls
+pub mod ToldLoops
+pub mod ToldLaws

@@ -1,6 +1,5 @@
 -- Each command leaves the lists so that they tell each once.
-use Rattle.std.proofs.Common.{◌≡◌, ℕ, ◌+◌, ◌≤◌, ◌<◌, List, [], ◌∷◌, ◌++◌, Bool, true, false, not, Option, None, Some, arith, refl, sym, ap, ◌∙◌, subst}
-use Rattle.std.specs.Prelude.{is_some}
+use Rattle.std.proofs.Common.{◌≡◌, ℕ, ◌+◌, ◌<◌, List, [], ◌∷◌, ◌++◌, Bool, true, false, not, Option, None, Some, arith, refl, sym, ap, subst}
 use Rattle.std.proofs.lemmas.Bool.{false≢true}
 use Rattle.kj_base.specs.declared.outcomes.Outcome.TheVariants.{Value, Broken as BrokenBy}
 use Rattle.kj_base.specs.Queue.{DepthFirst, BreadthFirst}
@@ -9,19 +8,18 @@ use Rattle.kj_model.specs.Nodes.{Form, Tree, Ready, Later as LaterNode, Last as 
 use Rattle.kj_model.specs.World.{World, State, Setting, Held, Promise, CellOf, AskCell, HubOf, Group, Canceler, RequestOf, held_at}
 use Rattle.kj_model.specs.Changes.{silent, named, unnamed}
 use Rattle.kj_model.specs.Places.{built}
-use Rattle.kj_model.specs.Listening.{listened, settled}
+use Rattle.kj_model.specs.Listening.{listened}
 use Rattle.kj_model.specs.Outcomes.{cancelled, fulfiller_dropped}
 use Rattle.kj_model.specs.Free.{Guard, free, usual}
-use Rattle.kj_model.specs.Effects.{node_named, leaf_built, over_built, over_named, with_branch_in, branch_built, trees_named, each_listened, wrapped_in, without_abandoned, sides_built, numbers_from, chain_built, fork_built, request_built, effect}
+use Rattle.kj_model.specs.Effects.{node_named, leaf_built, over_built, over_named, with_branch_in, trees_named, each_listened, wrapped_in, without_abandoned, sides_built, numbers_from, chain_built, fork_built, request_built, effect}
 use Rattle.kj_model.specs.Apply.{Refused, refusal, applied, apply}
-use Rattle.kj_model.specs.Uses.{is_taken_ask}
-use Rattle.kj_model.specs.Framed.{times, name_numbers}
+use Rattle.kj_model.specs.Uses.{is_outside, is_taken_ask}
 use Rattle.kj_ownership.proofs.Moves.{built_grows}
-use Rattle.kj_ownership.proofs.Premises.{Allowed, allowed, found_none, new_absent, promise_is, cell_is, ask_is, request_is}
+use Rattle.kj_ownership.proofs.Premises.{Allowed, allowed, found_none, new_absent, promise_is, cell_is, request_is}
 use Rattle.kj_ownership.proofs.Makes.{over_sources}
-use Rattle.kj_takings.proofs.Told.{kind, Tales, Listed, Leaves, leaves_none, leaves_then, listened_leaves, put_leaves, built_leaves, named_leaves, unnamed_leaves, absent_kind}
+use Rattle.kj_takings.proofs.ToldListed.{kind, Tales, Listed, Leaves, leaves_none, leaves_then, listened_leaves, put_leaves, built_leaves, named_leaves, unnamed_leaves, absent_kind}
 use Rattle.kj_takings.proofs.ToldFrees.{free_leaves}
-use Rattle.kj_takings.proofs.ToldChanges.{ask_listed, end_pends, end_listed, reply_listed, pending}
+use Rattle.kj_takings.proofs.ToldChanges.{ask_listed, begun_by, begin_listed, end_pends, end_listed, replied_to, reply_listed, pending}
 use Rattle.kj_takings.proofs.ToldEffects.{still, leaf_leaves, over_leaves, over_named_leaves, each_listened_leaves, plain_sources, sides_leaves, settled_leaves, cleared_leaves, added_leaves, detached_leaves, empty_leaves, wrapped_leaves, canceled_leaves, drop_leaves}
 
 branch_at : (n h : ℕ) (o : Option Form) (w : World) → Leaves w (with_branch_in n h o w)
@@ -46,8 +44,8 @@ fork_leaves hub source w n p =
     let x = named hub (HubOf w.next) b in
     leaves_then w x (listened t x) (leaves_then w b x l (named_leaves hub (HubOf w.next) b refl (still hub w b l n))) (listened_leaves t x)
 
-request_leaves : (request step : ℕ) (words : List ℕ) (w : World) → kind (held_at request w.names) ≡ None → Leaves w (request_built request step words w)
-request_leaves request step words w e =
+request_listed : (request step : ℕ) (words : List ℕ) (w : World) (told : Tales) → kind (held_at request w.names) ≡ None → Listed told w → Listed (begun_by request told) (request_built request step words w)
+request_listed request step words w told e g =
     let n = w.next in
     let a = built None (Ready (Value words)) w in
     let b = built (Some n) (ThenNode (Some step) None (Some n)) a in
@@ -55,7 +53,7 @@ request_leaves request step words w e =
     let d = built (Some (n + 2)) (Request request (Some (n + 2))) c in
     let l = leaves_then w c d (leaves_then w b c (leaves_then w a b (built_leaves None (Ready (Value words)) w) (built_leaves (Some n) (ThenNode (Some step) None (Some n)) a)) (built_leaves (Some (n + 1)) (ChainNode (n + 1)) b)) (built_leaves (Some (n + 2)) (Request request (Some (n + 2))) c) in
     let x = named request (RequestOf (Some (n + 3))) d in
-    leaves_then w x (listened (n + 1) x) (leaves_then w d x l (named_leaves request (RequestOf (Some (n + 3))) d refl (still request w d l e))) (listened_leaves (n + 1) x)
+    (listened_leaves (n + 1) x).listed (begun_by request told) (begin_listed told request (n + 3) d (still request w d l e) (l.listed told g))
 
 join_leaves : (name : ℕ) (form : Form) (sources trees : List ℕ) (w : World) → kind (held_at name w.names) ≡ None → Leaves w (sides_built sources w) → Leaves w (each_listened trees (leaf_built name form (sides_built sources w)))
 join_leaves name form sources trees w n l =
@@ -72,7 +70,19 @@ taken_ask (Some (AskCell p false)) e = absurd (false≢true (sym e))
 taken_ask None e = absurd (false≢true (sym e))
 taken_ask (Some _) e = absurd (false≢true (sym e))
 
-effect_listed : (setting : Setting) (inside : Bool) (guard : Guard) (c : Command) (s : State) (told : Tales) → Allowed setting inside c s → Listed told s.world → Listed told (effect guard c s).world
+-- what is told after a command: a request more, or an ask's cell less
+abbrev pub told_after : Command → Tales → Tales
+told_after (Begin request step words) told = begun_by request told
+told_after (Reply cell outcome) told = replied_to cell told
+told_after other told = told
+
+inside_after : (c : Command) (told : Tales) → is_outside c ≡ false → told_after c told ≡ told
+inside_after (Begin request step words) told e = absurd (false≢true (sym e))
+inside_after (Stop request) told e = refl
+inside_after (Reply cell outcome) told e = absurd (false≢true (sym e))
+inside_after c told e = refl
+
+effect_listed : (setting : Setting) (inside : Bool) (guard : Guard) (c : Command) (s : State) (told : Tales) → Allowed setting inside c s → Listed told s.world → Listed (told_after c told) (effect guard c s).world
 effect_listed setting inside guard (Now name words) s told a g = (leaf_leaves name (Ready (Value words)) s.world (absent_kind name s.world.names (new_absent name false s.world.names (found_none _ _ _ a.untaken).0))).listed told g
 effect_listed setting inside guard (Broken name exception) s told a g = (leaf_leaves name (Ready (BrokenBy exception)) s.world (absent_kind name s.world.names (new_absent name false s.world.names (found_none _ _ _ a.untaken).0))).listed told g
 effect_listed setting inside guard (Later name) s told a g = (leaf_leaves name LaterNode s.world (absent_kind name s.world.names (new_absent name false s.world.names (found_none _ _ _ a.untaken).0))).listed told g
@@ -137,7 +147,7 @@ effect_listed setting inside guard (Ask name cell target step words) s told a g 
     let p = found_none _ _ _ a.untaken in
     let l = leaf_leaves name (Cell None) w (absent_kind name w.names (new_absent name false w.names p.0)) in
     ask_listed told cell target step words w (leaf_built name (Cell None) w) l (grows name (Cell None) w) (absent_kind cell w.names (new_absent cell _ w.names (found_none _ _ _ p.1).0)) g
-effect_listed setting inside guard (Begin request step words) s told a g = (request_leaves request step words s.world (absent_kind request s.world.names (new_absent request false s.world.names (found_none _ _ _ a.untaken).0))).listed told g
+effect_listed setting inside guard (Begin request step words) s told a g = request_listed request step words s.world told (absent_kind request s.world.names (new_absent request false s.world.names (found_none _ _ _ a.untaken).0)) g
 effect_listed setting inside guard (Stop request) s told a g =
     let h = request_is (held_at request s.world.names) (found_none _ _ _ a.right).0 in
     let t = silent (named request (RequestOf None)) s in
@@ -146,11 +156,26 @@ effect_listed setting inside guard (Stop request) s told a g =
 effect_listed setting inside guard (Reply cell outcome) s told a g =
     let w = s.world in
     let h = taken_ask (held_at cell w.names) (found_none _ _ _ a.right).0 in
-    (settled_leaves BreadthFirst (node_named cell w) outcome (without_abandoned cell (unnamed cell w))).listed told (reply_listed told cell h.0 w h.1 g)
+    (settled_leaves BreadthFirst (node_named cell w) outcome (without_abandoned cell (unnamed cell w))).listed (replied_to cell told) (reply_listed told cell h.0 w h.1 g)
 
-applied_listed : (setting : Setting) (inside : Bool) (c : Command) (s : State) (told : Tales) (o : Option Refused) → refusal setting inside c s ≡ o → Listed told s.world → Listed told (applied o c s).0.world
+-- what is told after a call of a command, refused or not
+abbrev pub told_if : Option Refused → Command → Tales → Tales
+told_if (Some refused) c told = told
+told_if None c told = told_after c told
+
+applied_listed : (setting : Setting) (inside : Bool) (c : Command) (s : State) (told : Tales) (o : Option Refused) → refusal setting inside c s ≡ o → Listed told s.world → Listed (told_if (applied o c s).1 c told) (applied o c s).0.world
 applied_listed setting inside c s told (Some refused) e g = g
 applied_listed setting inside c s told None e g = effect_listed setting inside (usual s.world) c s told (allowed setting inside c s e) g
 
-pub apply_listed : (setting : Setting) (inside : Bool) (c : Command) (s : State) (told : Tales) → Listed told s.world → Listed told (apply setting inside c s).0.world
-apply_listed setting inside c s told g = applied_listed setting inside c s told (refusal setting inside c s) refl g
+pub command_listed : (setting : Setting) (inside : Bool) (c : Command) (s : State) (told : Tales) → Listed told s.world → Listed (told_if (apply setting inside c s).1 c told) (apply setting inside c s).0.world
+command_listed setting inside c s told g = applied_listed setting inside c s told (refusal setting inside c s) refl g
+
+-- a step's commands begin no request and give no reply
+inside_listed : (setting : Setting) (c : Command) (s : State) (told : Tales) (o : Option Refused) → refusal setting true c s ≡ o → Listed told s.world → Listed told (applied o c s).0.world
+inside_listed setting c s told (Some refused) e g = g
+inside_listed setting c s told None e g =
+    let a = allowed setting true c s e in
+    subst (λ (t : Tales). Listed t (effect (usual s.world) c s).world) (inside_after c told a.outside) (effect_listed setting true (usual s.world) c s told a g)
+
+pub apply_listed : (setting : Setting) (c : Command) (s : State) (told : Tales) → Listed told s.world → Listed told (apply setting true c s).0.world
+apply_listed setting c s told g = inside_listed setting c s told (refusal setting true c s) refl g

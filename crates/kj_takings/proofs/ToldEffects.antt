@@ -1,10 +1,10 @@
 -- What stays listed over the parts of commands.
-use Rattle.std.proofs.Common.{◌≡◌, ℕ, ◌+◌, ◌≤◌, List, [], ◌∷◌, ◌++◌, Bool, true, false, Option, None, Some, refl, sym, ap, ◌∙◌}
+use Rattle.std.proofs.Common.{◌≡◌, ℕ, List, [], ◌∷◌, ◌++◌, false, Option, None, Some, refl, ap, ◌∙◌}
 use Rattle.std.specs.Prelude.{reverse}
 use Rattle.kj_base.specs.declared.outcomes.Outcome.{Outcome}
 use Rattle.kj_base.specs.Queue.{Way, DepthFirst}
-use Rattle.kj_model.specs.Nodes.{Form, Content, Tree, Kept, Waits, Ready, Cell, Wrap as WrapNode, Hub, Side, Task, form_at}
-use Rattle.kj_model.specs.World.{World, State, Named, Held, Promise, CellOf, HubOf, Group, Canceler, Awaited, held_at}
+use Rattle.kj_model.specs.Nodes.{Form, Tree, Kept, Waits, Ready, Cell, Wrap as WrapNode, Hub, Side, Task, form_at}
+use Rattle.kj_model.specs.World.{World, State, Held, Promise, HubOf, Group, Canceler, Awaited, held_at}
 use Rattle.kj_model.specs.Changes.{silent, put, named, unnamed}
 use Rattle.kj_model.specs.Places.{built}
 use Rattle.kj_model.specs.Listening.{announced, listened, settled, settled_form}
@@ -12,7 +12,7 @@ use Rattle.kj_model.specs.Outcomes.{void, cancelled}
 use Rattle.kj_model.specs.Free.{Guard, free, each_freed, reference_gone, guarded_too}
 use Rattle.kj_model.specs.Effects.{node_named, leaf_built, over_built, over_named, sides_built, each_listened, added_in, added, with_detached, detached_built, emptied, now_empty, cleared_in, cleared, empty_built_in, wrapped_in, disarmed_node, wrap_cancelled, each_cancelled, wraps_of, canceled, hub_unnamed_in, hub_unnamed, dropped_held}
 use Rattle.kj_ownership.proofs.Premises.{AreSources}
-use Rattle.kj_takings.proofs.Told.{kind, Leaves, leaves_none, leaves_then, stays, announced_leaves, listened_leaves, put_leaves, built_leaves, named_leaves, unnamed_leaves}
+use Rattle.kj_takings.proofs.ToldListed.{kind, Leaves, leaves_none, leaves_then, stays, announced_leaves, listened_leaves, put_leaves, built_leaves, named_leaves, unnamed_leaves}
 use Rattle.kj_takings.proofs.ToldFrees.{each_leaves, reference_leaves, free_leaves}
 
 -- two changes of a world

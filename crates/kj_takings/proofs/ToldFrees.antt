@@ -1,11 +1,10 @@
 -- What stays listed over a free: an ask's cell that waits is listed as abandoned, and goes.
-use Rattle.std.proofs.Common.{◌≡◌, ℕ, zero, suc, ◌+◌, ◌≤◌, List, [], ◌∷◌, ◌++◌, Bool, true, false, not, cond, Option, None, Some, arith, refl, sym, ap, ◌∙◌, subst, ◌==◌}
+use Rattle.std.proofs.Common.{◌≡◌, ℕ, zero, suc, ◌+◌, ◌≤◌, List, [], ◌∷◌, ◌++◌, Bool, true, false, not, cond, Option, None, Some, arith, refl, sym, ap, ◌∙◌, subst, ◌==◌, append_assoc}
 use Rattle.std.specs.Prelude.{nat_eq, is_some}
 use Rattle.std.proofs.lemmas.Bool.{false≢true}
-use Rattle.std.proofs.lemmas.Bool.Decides.{nat_tests}
 use Rattle.kj_model.specs.Nodes.{Form, Cell, Branch, Wrap, Hub, form_at, parts_of, dropped}
 use Rattle.kj_model.specs.World.{World, State, Named, Held, Promise, CellOf, AskCell, HubOf, Group, Canceler, RequestOf, held_at, depth_of}
-use Rattle.kj_model.specs.Changes.{silent, gone, gone_world, without_name}
+use Rattle.kj_model.specs.Changes.{silent, gone_world}
 use Rattle.kj_model.specs.Free.{Guard, is_guarded, free_unless, free_unreferenced, reference_gone, without_branch_in, without_branch, without_wrap_in, without_wrap, is_ask_of, ask_of, abandoned_as, each_freed, free_form, free_to, free}
 use Rattle.kj_model.specs.Framed.{times}
 use Rattle.kj_model.proofs.Spared.{same_number, form_without_same}
@@ -13,8 +12,8 @@ use Rattle.kj_model.proofs.Counts.{times_app}
 use Rattle.kj_ownership.specs.Owners.{is_live}
 use Rattle.kj_ownership.specs.Standing.{one_if}
 use Rattle.kj_ownership.proofs.Tasks.{found_name}
-use Rattle.kj_takings.specs.Told.{is_lost_ask}
-use Rattle.kj_takings.proofs.Told.{kind, Tales, Listed, Leaves, leaves_none, leaves_then, lost_more, put_leaves, gone_leaves, named_leaves}
+use Rattle.kj_takings.specs.Told.{is_lost_ask, StartsWith}
+use Rattle.kj_takings.proofs.ToldListed.{kind, Tales, Listed, Leaves, leaves_none, leaves_then, put_leaves, gone_leaves, named_leaves}
 
 abbrev pub EachLeaves : (ℕ → State → State) → Type 0
 EachLeaves f = (n : ℕ) (s : State) → Leaves s.world (f n s).world
@@ -92,8 +91,16 @@ lost_listed told n x w e live g =
       untold = k.untold;
       old_asks = k.old_asks;
       old_lost = k.old_lost;
+      requests = k.requests;
+      stay = k.stay;
+      first_asks = k.first_asks;
+      first_ended = k.first_ended;
+      first_lost = longer g.first_lost.0 g.first_lost.1;
     }
   where
+    longer : (more : List ℕ) → w.abandoned ≡ told.first_lost ++ more → StartsWith told.first_lost (w.abandoned ++ x.name ∷ [])
+    longer more e = (more ++ x.name ∷ [], ap (λ (xs : List ℕ). xs ++ x.name ∷ []) e ∙ append_assoc told.first_lost more (x.name ∷ []))
+
     none : (b : Bool) → held_at x.name w.names ≡ Some (AskCell n b) → times x.name w.abandoned ≡ 0
     none b held =
         let a = g.abandoned x.name in

@@ -1,5 +1,5 @@
 -- Each event, turn and run of turns leaves the lists so that they tell each once.
-use Rattle.std.proofs.Common.{zero, suc, ◌≡◌, inl, ℕ, List, [], ◌∷◌, ◌++◌, Bool, true, false, Option, None, Some, refl, sym, ap, ◌∙◌, ◌==◌}
+use Rattle.std.proofs.Common.{zero, suc, ◌≡◌, inl, ℕ, List, [], ◌∷◌, ◌++◌, Bool, true, false, Option, None, Some, refl, ap, ◌∙◌, ◌==◌}
 use Rattle.std.specs.Prelude.{is_some}
 use Rattle.std.proofs.lemmas.Bool.{false≢true}
 use Rattle.kj_base.specs.declared.outcomes.Outcome.{Outcome}
@@ -9,10 +9,10 @@ use Rattle.kj_model.specs.Nodes.{Entry, Form, Content, Tree, Kept, Stage, Waits,
 use Rattle.kj_model.specs.World.{World, State, Setting, Named, Held, Promise, CellOf, AskCell, HubOf, Group, Canceler, RequestOf, held_at, depth_of}
 use Rattle.kj_model.specs.Changes.{silent, put, named, gone_world}
 use Rattle.kj_model.specs.Listening.{announced, listened, join_ready}
-use Rattle.kj_model.specs.Effects.{now_empty, with_ended}
+use Rattle.kj_model.specs.Effects.{with_ended}
 use Rattle.kj_model.specs.Value.{Given, Gave, Took, value, value_link, freed, run_step}
 use Rattle.kj_model.specs.Free.{usual}
-use Rattle.kj_model.specs.Fire.{replaced, chain_ended, kept_at, keeps, kept_then, kept_from, each_announced, branches_of, branches_announced, other_side, tree_freed, race_won, announced_if, fast_announced, all_fired, join_fired, side_fired_under, side_fired_by, side_fired, has_task, without_task, group_of, group_error, group_left, set_left, without_left_over, task_gone, task_stepped, error_run, task_ended, task_left, task_valued, request_valued, fire_form, with_firing, fire}
+use Rattle.kj_model.specs.Fire.{replaced, chain_ended, kept_at, keeps, kept_then, kept_from, each_announced, branches_of, branches_announced, other_side, tree_freed, race_won, announced_if, fast_announced, join_fired, side_fired_under, side_fired_by, side_fired, has_task, without_task, group_of, group_error, group_left, set_left, without_left_over, task_gone, task_stepped, error_run, task_ended, task_valued, request_valued, fire_form, with_firing, fire}
 use Rattle.kj_model.specs.Calls.{Turned, Fired, Idle, NoMemory, Stopped, rewound_world, taken_world, turn_at, turn_unless, turn, more_turns, run}
 use Rattle.kj_model.proofs.Members.{in_self}
 use Rattle.kj_ownership.specs.Owners.{is_live, owns}
@@ -26,7 +26,7 @@ use Rattle.kj_ownership.proofs.Applied.{commands_keep}
 use Rattle.kj_ownership.proofs.Tasks.{found_name}
 use Rattle.kj_ownership.proofs.RequestFires.{request_at}
 use Rattle.kj_ownership.proofs.Turns.{firing_standing, fires_shaped, rewound_passes, taken_passes, turn_passes}
-use Rattle.kj_takings.proofs.Told.{kind, Tales, Listed, Leaves, leaves_none, leaves_then, stays, announced_leaves, listened_leaves, put_leaves, gone_leaves, named_leaves, replaced_leaves}
+use Rattle.kj_takings.proofs.ToldListed.{kind, Tales, Listed, Leaves, leaves_none, leaves_then, stays, announced_leaves, listened_leaves, put_leaves, gone_leaves, named_leaves, replaced_leaves}
 use Rattle.kj_takings.proofs.ToldFrees.{free_leaves}
 use Rattle.kj_takings.proofs.ToldChanges.{end_pends, end_listed}
 use Rattle.kj_takings.proofs.ToldEffects.{now_empty_leaves, roots_leaves}

@@ -1,17 +1,17 @@
 -- Steps, and the evaluation of trees.
-use Rattle.std.proofs.Common.{zero, suc, ◌≡◌, ℕ, List, [], ◌∷◌, ◌++◌, Bool, true, false, Option, None, Some, arith, refl, ap}
+use Rattle.std.proofs.Common.{zero, suc, ◌≡◌, ℕ, List, [], ◌∷◌, ◌++◌, Bool, true, false, Option, None, Some, refl, ap}
 use Rattle.kj_base.specs.declared.outcomes.Outcome.{Outcome}
 use Rattle.kj_base.specs.Commands.{Command, Action}
 use Rattle.kj_base.specs.declared.endings.Ending.{Ending}
 use Rattle.kj_base.specs.declared.endings.Ending.TheVariants.{Value as Give, Throw, Promise, Input}
-use Rattle.kj_base.specs.Record.{Item, Run}
+use Rattle.kj_base.specs.Record.{Run}
 use Rattle.kj_model.specs.Nodes.{Form, Then, Race, Join, Side, Waits, Fired, Keeps, Gone, form_at}
-use Rattle.kj_model.specs.World.{World, State, Setting, Held, Promise as PromiseOf, held_at, depth_of}
+use Rattle.kj_model.specs.World.{State, Setting, Held, Promise as PromiseOf, held_at, depth_of}
 use Rattle.kj_model.specs.Changes.{silent, put}
 use Rattle.kj_model.specs.Free.{usual}
 use Rattle.kj_model.specs.Apply.{Refused, apply}
-use Rattle.kj_model.specs.Value.{Given, Took, took_if, holds_firing, promise_taken, promise_ended, ended, rest_applied, all_applied, ended_if, with_item, with_stopped, answered, run_step, chosen, step_passed, freed, then_valued, then_of, side_valued, side_of, value_side, rest_valued, all_valued, join_valued, winner_valued, value_form, value_to, value, value_link}
-use Rattle.kj_takings.proofs.Told.{kind, Tales, Listed, stays, put_leaves, unnamed_leaves}
+use Rattle.kj_model.specs.Value.{Given, took_if, holds_firing, promise_taken, promise_ended, ended, rest_applied, all_applied, ended_if, with_item, with_stopped, answered, run_step, chosen, step_passed, freed, then_valued, then_of, side_valued, side_of, value_side, rest_valued, all_valued, join_valued, winner_valued, value_form, value_to, value, value_link}
+use Rattle.kj_takings.proofs.ToldListed.{kind, Tales, Listed, stays, put_leaves, unnamed_leaves}
 use Rattle.kj_takings.proofs.ToldFrees.{free_leaves}
 use Rattle.kj_takings.proofs.ToldCommands.{apply_listed}
 
@@ -28,7 +28,7 @@ rest_listed told (Some refused) rest s h g = g
 
 all_listed : (told : Tales) (setting : Setting) (cs : List Command) (s : State) → Listed told s.world → Listed told (all_applied setting cs s).0.world
 all_listed told setting [] s g = g
-all_listed told setting (c ∷ cs) s g = let r = apply setting true c s in rest_listed told r.1 (all_applied setting cs) r.0 (λ t h. all_listed told setting cs t h) (apply_listed setting true c s told g)
+all_listed told setting (c ∷ cs) s g = let r = apply setting true c s in rest_listed told r.1 (all_applied setting cs) r.0 (λ t h. all_listed told setting cs t h) (apply_listed setting c s told g)
 
 -- an ending
 taken_if : (told : Tales) (b : Bool) (name root : ℕ) (s : State) → held_at name s.world.names ≡ Some (PromiseOf root) → Listed told s.world → Listed told (took_if b name root s).0.world

@@ -5,7 +5,7 @@ use Rattle.kj_base.specs.Record.{Item}
 use Rattle.kj_model.specs.Apply.{Refused, Full}
 use Rattle.kj_model.specs.Calls.{Call, CallApply, CallTurn, CallRun, CallWait, CallTakeAsk, CallTakeEnded, CallTakeAbandoned, call, Reply as ReplyOf, Applied, TurnedBy, WaitedBy, TookAsk, TookEnded, TookAbandoned, Closed, Waited, Done, WaitIdle, Turns, NotThere, WaitNoMemory, WaitStopped}
 use Rattle.kj_model.specs.World.{World, State, Setting, Ended, held_at}
-use Rattle.kj_ownership.specs.Kept.{TakesSpent}
+use Rattle.kj_ownership.specs.Kept.{TakesSpent, is_open}
 use Rattle.kj_takings.specs.Spared.{names_of, names_in, spares, spared_in, HasRoom}
 
 -- a call that takes an ask, an ended request or an abandoned cell
@@ -136,12 +136,17 @@ pub record IsNowhere (name : ℕ) (s t : State) : Type 0 where
   pub left : held_at name s.world.names ≡ None
   pub right : held_at name t.world.names ≡ None
 
+-- a call closes the loop only where nothing follows it
+abbrev pub ClosesLast : Call → List Step → Type 0
+ClosesLast c [] = Unit {0}
+ClosesLast c (step ∷ more) = is_open c ≡ true
+
 -- calls on both sides fit, only taking calls stand on one side, and the names that these free are loose until they are on neither side
 abbrev pub StepsFit : Setting → (ℕ → Bool) → List Step → State → State → Type 0
 StepsFit setting loose [] s t = Unit {0}
-StepsFit setting loose (Both c ∷ more) s t = (is_taking c ≡ false) × CallFits loose setting c s t × StepsFit setting loose more (call setting c s).0 (call setting c t).0
-StepsFit setting loose (Left c ∷ more) s t = TakingFits c s × StepsFit setting (loosened_by (name_freed c s.world) loose) more (call setting c s).0 t
-StepsFit setting loose (Right c ∷ more) s t = TakingFits c t × StepsFit setting (loosened_by (name_freed c t.world) loose) more s (call setting c t).0
+StepsFit setting loose (Both c ∷ more) s t = (is_taking c ≡ false) × ClosesLast c more × CallFits loose setting c s t × StepsFit setting loose more (call setting c s).0 (call setting c t).0
+StepsFit setting loose (Left c ∷ more) s t = (is_taking c ≡ true) × StepsFit setting (loosened_by (name_freed c s.world) loose) more (call setting c s).0 t
+StepsFit setting loose (Right c ∷ more) s t = (is_taking c ≡ true) × StepsFit setting (loosened_by (name_freed c t.world) loose) more s (call setting c t).0
 StepsFit setting loose (Settled name ∷ more) s t = IsNowhere name s t × StepsFit setting (firmed name loose) more s t
 
 -- the names that are loose after these steps

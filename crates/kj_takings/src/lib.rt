@@ -4,3 +4,4 @@
 
 pub mod arming;
 pub mod taking;
+pub mod told;

@@ -2,8 +2,10 @@
 ghost use Rattle.kj_base.specs.declared.numbers.Limits.{Limits};
 ghost use Rattle.kj_model.specs.Calls.{Call, call, calls};
 ghost use Rattle.kj_model.specs.World.{Setting, State, new_state};
+ghost use Rattle.kj_ownership.specs.Fits.{Fits};
 ghost use Rattle.kj_takings.specs.Alike.{AlikeStates, AreRising};
 ghost use Rattle.kj_takings.specs.Calls.{CallFits, IsNowhere, Step, StepsFit, TakingFits, firmed, is_taking, left_calls, loose_after, loosened_by, name_freed, none_loose, plain_replies, reply_but_why, right_calls};
+ghost use Rattle.kj_takings.specs.Told.{IsReached};
 ghost use Rattle.kj_takings.specs.Worked.{passing_setting, worked_past, worked_start, worked_steps};
 ghost use Rattle.std.specs.Prelude.{Bool, false, ℕ, List, ◌≡◌};
 
@@ -56,19 +58,22 @@ pub fn takings_fit_a_worked_case()
         ≡ worked_past }
 {}
 
-/// Two lists of calls that differ only in where they take run the same steps and free the same
-/// nodes, in the same order, and their other calls have the same replies, but for why a command or a
-/// wait was refused.
+/// Two lists of calls of loops that differ only in where they take run the same steps and free the
+/// same nodes, in the same order, and their other calls have the same replies, but for why a command
+/// or a wait was refused.
 pub fn takings_change_no_run()
     ensures runs { (setting : Setting) (loose : ℕ → Bool) (steps : List Step) (s t : State)
+        → Fits setting → IsReached setting s → IsReached setting t
         → StepsFit setting loose steps s t → AlikeStates loose s t
         → (calls setting (right_calls steps) t).0.past
         ≡ (calls setting (left_calls steps) s).0.past }
     ensures replies { (setting : Setting) (loose : ℕ → Bool) (steps : List Step) (s t : State)
+        → Fits setting → IsReached setting s → IsReached setting t
         → StepsFit setting loose steps s t → AlikeStates loose s t
         → plain_replies (right_calls steps) (calls setting (right_calls steps) t).1
         ≡ plain_replies (left_calls steps) (calls setting (left_calls steps) s).1 }
     ensures states { (setting : Setting) (loose : ℕ → Bool) (steps : List Step) (s t : State)
+        → Fits setting → IsReached setting s → IsReached setting t
         → StepsFit setting loose steps s t → AlikeStates loose s t
         → AlikeStates (loose_after setting loose steps s t)
         (calls setting (left_calls steps) s).0 (calls setting (right_calls steps) t).0 }

@@ -1,11 +1,7 @@
 use Rattle.std.proofs.Common.{refl}
 use Rattle.kj_model.specs.Free.{free_to}
 use Rattle.kj_model.specs.Value.{value_to}
-use Rattle.kj_paths.proofs.Worked.{worked_open}
 use Rattle.kj_paths.proofs.laws.a_promise_comes_with_its_path.Goals as goal
-
-pub returns-clause-asked : goal.returns-clause-asked
-returns-clause-asked c = worked_open
 
 pub returns-clause-before : goal.returns-clause-before
 unfolding free_to value_to

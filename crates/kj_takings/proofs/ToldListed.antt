@@ -1,18 +1,17 @@
 -- What stays listed over single changes of a world.
-use Rattle.std.proofs.Common.{◌≡◌, ℕ, ◌+◌, ◌≤◌, ◌<◌, List, [], ◌∷◌, ◌++◌, Bool, true, false, not, cond, Option, None, Some, arith, refl, sym, ap, ◌∙◌, subst, ◌==◌}
+use Rattle.std.proofs.Common.{◌≡◌, ℕ, ◌+◌, ◌≤◌, ◌<◌, List, [], ◌∷◌, Bool, true, false, not, cond, Option, None, Some, arith, refl, sym, ap, ◌∙◌, subst, ◌==◌}
 use Rattle.std.specs.Prelude.{nat_eq, is_some, map}
 use Rattle.std.proofs.lemmas.Bool.{false≢true}
 use Rattle.std.proofs.lemmas.Bool.Decides.{nat_tests}
 use Rattle.kj_base.specs.Queue.{Way}
-use Rattle.kj_model.specs.Nodes.{Entry, Form, form_at, with_form, renamed}
+use Rattle.kj_model.specs.Nodes.{Entry, Form, form_at, with_form}
 use Rattle.kj_model.specs.World.{World, Named, Held, Promise, CellOf, AskCell, HubOf, Group, Canceler, RequestOf, Asked, Ended, held_at}
 use Rattle.kj_model.specs.Changes.{put, named, unnamed, with_new, without_name, gone_world}
 use Rattle.kj_model.specs.Places.{built}
 use Rattle.kj_model.specs.Listening.{announced, listened}
 use Rattle.kj_model.specs.Fire.{held_renamed, named_renamed, replaced}
 use Rattle.kj_model.specs.Framed.{times, name_numbers, NamesApart}
-use Rattle.kj_model.proofs.Spared.{same_number, form_put_same, form_put_other, form_without_other, form_without_same}
-use Rattle.kj_model.proofs.Once.{false_by}
+use Rattle.kj_model.proofs.Spared.{same_number, form_put_other, form_without_other, form_without_same}
 use Rattle.kj_model.proofs.Counts.{new_names, without_times, held_there}
 use Rattle.kj_ownership.specs.Owners.{is_live}
 use Rattle.kj_ownership.specs.Standing.{one_if}
@@ -20,19 +19,30 @@ use Rattle.kj_ownership.proofs.Moves.{built_grows, app_other}
 use Rattle.kj_ownership.proofs.Reached.{QueueOnly, announced_only, listened_only}
 use Rattle.kj_ownership.proofs.Replaced.{form_renamed, live_renamed}
 use Rattle.kj_ownership.proofs.Shapes.{held_named, held_unnamed}
-use Rattle.kj_takings.specs.Told.{ask_cells, ended_names, is_untaken, has_ended, is_lost_ask, TellsOnce}
+use Rattle.kj_takings.specs.Told.{ask_cells, ended_names, is_untaken, is_request, has_ended, is_lost_ask, ask_node, StartsWith, TellsOnce}
 
--- what a name holds, where it may be listed
+-- what a name holds, where it is an ask's cell or a request; the node of a request is left out
 abbrev pub kind : Option Held → Option Held
 kind (Some (AskCell cell is_taken)) = Some (AskCell cell is_taken)
 kind (Some (RequestOf None)) = Some (RequestOf None)
+kind (Some (RequestOf (Some node))) = Some (RequestOf (Some 0))
 kind other = None
 
--- the cells whose asks were told, those that were told as abandoned, and names whose end isn't listed yet
+-- a request that runs
+abbrev pub running : Option Held
+running = Some (RequestOf (Some 0))
+
+-- the nodes of the cells whose asks were told, and of those that were told as abandoned; names whose end isn't listed yet;
+-- the names of requests; names with the cells that they hold still; and what stands first in the lists
 pub record Tales : Type 0 where
   pub asks : ℕ → Bool
   pub lost : ℕ → Bool
   pub pending : List ℕ
+  pub requests : ℕ → Bool
+  pub cells : ℕ → Option ℕ
+  pub first_asks : List Asked
+  pub first_ended : List Ended
+  pub first_lost : List ℕ
 
 -- the lists tell each once, after these tales; and no two names have the cell of one ask
 pub record Listed (told : Tales) (w : World) : Type 0 where
@@ -42,10 +52,15 @@ pub record Listed (told : Tales) (w : World) : Type 0 where
   pub abandoned : (c : ℕ) → times c w.abandoned ≤ one_if (is_lost_ask w.nodes (held_at c w.names))
   pub cells : (c d p : ℕ) (a b : Bool) → held_at c w.names ≡ Some (AskCell p a) → held_at d w.names ≡ Some (AskCell p b) → c ≡ d
   pub built : (c p : ℕ) (b : Bool) → held_at c w.names ≡ Some (AskCell p b) → p < w.next
-  pub taken : (c p : ℕ) (b : Bool) → held_at c w.names ≡ Some (AskCell p b) → told.asks p ≡ true → b ≡ true
+  pub taken : (c p : ℕ) (b : Bool) → held_at c w.names ≡ Some (AskCell p b) → told.asks p ≡ b
   pub untold : (c p : ℕ) (b : Bool) → held_at c w.names ≡ Some (AskCell p b) → told.lost p ≡ true → ⊥
   pub old_asks : (p : ℕ) → told.asks p ≡ true → p < w.next
   pub old_lost : (p : ℕ) → told.lost p ≡ true → p < w.next
+  pub requests : (c : ℕ) → is_request (held_at c w.names) ≡ told.requests c
+  pub stay : (c p : ℕ) → told.cells c ≡ Some p → ask_node (held_at c w.names) ≡ Some p
+  pub first_asks : StartsWith told.first_asks w.asks
+  pub first_ended : StartsWith told.first_ended w.ended
+  pub first_lost : StartsWith told.first_lost w.abandoned
 
 -- no list is touched, names hold the same where they may be listed, and no node comes back
 pub record Spares (w v : World) : Type 0 where
@@ -72,13 +87,16 @@ leaves_then u v w a b = record { kinds = λ c. b.kinds c ∙ a.kinds c; listed =
 no_held : (h : Held) → ◌≡◌ {A = Option Held} None (Some h) → ⊥
 no_held h e = cc
 
+none_runs : (p : ℕ) (b : Bool) → running ≡ Some (AskCell p b) → ⊥
+none_runs p b e = cc
+
 none_kept : (p : ℕ) (b : Bool) → ◌≡◌ {A = Option Held} (Some (RequestOf None)) (Some (AskCell p b)) → ⊥
 none_kept p b e = cc
 
 pub kind_ask : (o : Option Held) (p : ℕ) (b : Bool) → kind o ≡ Some (AskCell p b) → o ≡ Some (AskCell p b)
 kind_ask (Some (AskCell cell is_taken)) p b e = e
 kind_ask (Some (RequestOf None)) p b e = absurd (none_kept p b e)
-kind_ask (Some (RequestOf (Some n))) p b e = absurd (no_held _ e)
+kind_ask (Some (RequestOf (Some n))) p b e = absurd (none_runs p b e)
 kind_ask None p b e = absurd (no_held _ e)
 kind_ask (Some _) p b e = absurd (no_held _ e)
 
@@ -96,6 +114,20 @@ ended_kind (Some (RequestOf (Some n))) = refl
 ended_kind None = refl
 ended_kind (Some _) = refl
 
+request_kind : (o : Option Held) → is_request o ≡ is_request (kind o)
+request_kind (Some (AskCell cell is_taken)) = refl
+request_kind (Some (RequestOf None)) = refl
+request_kind (Some (RequestOf (Some n))) = refl
+request_kind None = refl
+request_kind (Some _) = refl
+
+node_kind : (o : Option Held) → ask_node o ≡ ask_node (kind o)
+node_kind (Some (AskCell cell is_taken)) = refl
+node_kind (Some (RequestOf None)) = refl
+node_kind (Some (RequestOf (Some n))) = refl
+node_kind None = refl
+node_kind (Some _) = refl
+
 lost_kind : (nodes : List Entry) (o : Option Held) → is_lost_ask nodes o ≡ is_lost_ask nodes (kind o)
 lost_kind nodes (Some (AskCell cell is_taken)) = refl
 lost_kind nodes (Some (RequestOf None)) = refl
@@ -108,6 +140,12 @@ same_untaken o p e = untaken_kind p ∙ ap is_untaken e ∙ sym (untaken_kind o)
 
 pub same_ended : (o p : Option Held) → kind p ≡ kind o → has_ended p ≡ has_ended o
 same_ended o p e = ended_kind p ∙ ap has_ended e ∙ sym (ended_kind o)
+
+pub same_request : (o p : Option Held) → kind p ≡ kind o → is_request p ≡ is_request o
+same_request o p e = request_kind p ∙ ap is_request e ∙ sym (request_kind o)
+
+pub same_node : (o p : Option Held) → kind p ≡ kind o → ask_node p ≡ ask_node o
+same_node o p e = node_kind p ∙ ap ask_node e ∙ sym (node_kind o)
 
 pub same_lost : (nodes : List Entry) (o p : Option Held) → kind p ≡ kind o → is_lost_ask nodes p ≡ is_lost_ask nodes o
 same_lost nodes o p e = lost_kind nodes p ∙ ap (is_lost_ask nodes) e ∙ sym (lost_kind nodes o)
@@ -137,6 +175,11 @@ spared told w v s g = record {
   untold = λ c p b e. g.untold c p b (back c p b e);
   old_asks = λ p e. (let k = g.old_asks p e in let n = s.next in omega (arith, k, n));
   old_lost = λ p e. (let k = g.old_lost p e in let n = s.next in omega (arith, k, n));
+  requests = λ c. same_request (held_at c w.names) (held_at c v.names) (s.kinds c) ∙ g.requests c;
+  stay = λ c p e. same_node (held_at c w.names) (held_at c v.names) (s.kinds c) ∙ g.stay c p e;
+  first_asks = (g.first_asks.0, s.asks ∙ g.first_asks.1);
+  first_ended = (g.first_ended.0, s.ended ∙ g.first_ended.1);
+  first_lost = (g.first_lost.0, s.abandoned ∙ g.first_lost.1);
 }
   where
     back : (c p : ℕ) (b : Bool) → held_at c v.names ≡ Some (AskCell p b) → held_at c w.names ≡ Some (AskCell p b)
