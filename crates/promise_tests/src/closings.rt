@@ -3,7 +3,7 @@ ghost use Rattle.std.specs.Prelude.{◌≡◌, ◌≤◌, ◌<◌, ◌+◌, None
 ghost use Rattle.promise_names.specs.Held.{IsLoopsOwn, root_of};
 ghost use Rattle.name_table.specs.Table.{trees};
 
-use crate::calls::{Call, LIMITS, ROOM, close, refused, told_by};
+use crate::calls::{Call, LIMITS, ROOM, close, make_all, refused, told_by};
 use crate::commands::{branch, chain, detach, eager, fork, later, pair};
 use crate::tables::{TableEvaluator, evaluator_over_tables};
 use crate::teller::{GIVES_FOUND, Teller, Told};
